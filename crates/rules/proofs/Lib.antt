@@ -1,0 +1,12 @@
+pub mod Places
+pub mod Machine
+pub mod Theory
+pub mod Filling
+pub mod Growth
+pub mod Scanning
+pub mod Soundness
+pub mod Sounding
+pub mod Reaches
+pub mod Checking
+pub mod Answering
+pub mod OneAnswer

@@ -1,0 +1,5 @@
+pub mod Words
+pub mod Splits
+pub mod Laws
+pub mod Answers
+pub mod Steps
