@@ -1,0 +1,10 @@
+pub mod Readings
+pub mod Values
+pub mod Meanings
+pub mod Limits
+pub mod Verdicts
+pub mod Outcomes
+pub mod Wants
+pub mod Untils
+pub mod Marks
+pub mod Cases

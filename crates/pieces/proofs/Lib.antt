@@ -1,0 +1,10 @@
+pub mod Tellings
+pub mod Steadies
+pub mod Orders
+pub mod Shows
+pub mod Chains
+pub mod Puts
+pub mod Sweeps
+pub mod Done
+pub mod Windows
+pub mod Exists

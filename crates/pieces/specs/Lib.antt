@@ -1,0 +1,5 @@
+pub mod Views
+pub mod Ticks
+pub mod Pieces
+pub mod Cells
+pub mod Laws
