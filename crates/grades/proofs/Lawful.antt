@@ -1,17 +1,16 @@
 -- Truths and margins keep the laws.
-use mathlib.Core.Path.{_≡_, refl, ap, PathP}
-use mathlib.Core.Bool.{Bool, true, false, _&&_, _||_, not, Bool-discrete}
-use mathlib.Core.HLevel.{Discrete, isProp→PathP, ×-prop}
+use mathlib.Core.Path.{_≡_, refl}
+use mathlib.Core.Bool.{Bool, true, false, _&&_, _||_, not}
 use native.Mathlib.Omega.{arith}
 use Rattle.std.proofs.shelf.Signed.{ints, clamps}
-use lib.IntN.{ℤ, pos, negsuc, ℤ-discrete}
+use lib.IntN.{ℤ, pos, negsuc}
 use lib.Signed.{_≤ℤ_, leZ}
-use lib.Dec.{T, T-prop, le→leb}
+use lib.Dec.{T, le→leb}
 use Prim.Native.Nat.{zero-le}
 use Rattle.grades.specs.Gaps.{Gap-fits}
 use Rattle.grades.specs.Kinds.{Lawful}
 use Rattle.grades.specs.Truths.{truths, Implied}
-use Rattle.grades.specs.Margins.{margins, Level}
+use Rattle.grades.specs.Margins.{level-path, margins, Level}
 
 implied-refl : (x : Bool) → Implied x x
 implied-refl true = tt
@@ -77,7 +76,6 @@ reached-rises (negsuc m) q h = tt
 
 pub truths-lawful : Lawful truths
 truths-lawful = record {
-  same = Bool-discrete;
   below-refl = implied-refl;
   below-trans = implied-trans;
   below-antisym = implied-antisym;
@@ -94,21 +92,8 @@ truths-lawful = record {
   gap-rises = λ p q _ _ h. reached-rises p q h;
 }
 
-≤ℤ-prop : (x y : ℤ) → IsProp (x ≤ℤ y)
-≤ℤ-prop x y h k = λ i. record { le = T-prop (leZ x y) (h .le) (k .le) i }
-
--- levels of one number are one level
-pub level-path : (p q : Level) → p .number ≡ q .number → p ≡ q
-level-path p q e =
-    let ok : PathP (λ i. Gap-fits (e i)) (p .ok) (q .ok) = isProp→PathP (λ i. Gap-fits (e i)) (λ i. ×-prop (≤ℤ-prop _ _) (≤ℤ-prop _ _)) (p .ok) (q .ok) in
-    λ i. record { number = e i; ok = ok i }
-
-level-discrete : Discrete Level
-level-discrete p q = elim (ℤ-discrete (p .number) (q .number)) [ yes e ↦ yes (level-path p q e) | no n ↦ no (λ e. n (ap (λ (g : Level). g .number) e)) ]
-
 pub margins-lawful : Lawful margins
 margins-lawful = record {
-  same = level-discrete;
   below-refl = λ x. omega (arith, ints);
   below-trans = λ x y z h k. omega (arith, ints);
   below-antisym = λ x y h k. level-path x y (omega (arith, ints));

@@ -9,7 +9,7 @@ use Rattle.grades.specs.Gaps.{Gap-fits}
 use Rattle.grades.specs.Kinds.{Tells}
 use Rattle.grades.specs.Margins.{margins, Level, clamped}
 use Rattle.grades.specs.declared.margin.Margin.{Margin}
-use Rattle.grades.proofs.Lawful.{level-path}
+use Rattle.grades.specs.Margins.{level-path}
 
 abbrev pub level : Margin → Level
 level m = record { number = m .number; ok = m .ok }

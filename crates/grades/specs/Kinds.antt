@@ -5,7 +5,7 @@ use lib.IntN.{ℤ}
 use lib.Signed.{_≤ℤ_}
 use Rattle.grades.specs.Gaps.{Gap-fits}
 
--- below is the order "at most", meet the lower of two, join the upper of two
+-- below is the order "at most", meet the lower of two, join the upper of two, same the test of sameness
 pub record Kind : Type 1 where
   pub Value : Type 0
   pub below : Value → Value → Type 0
@@ -15,9 +15,9 @@ pub record Kind : Type 1 where
   pub lowest : Value
   pub highest : Value
   pub of-gap : ℤ → Value
+  pub same : (x y : Value) → Dec (x ≡ y)
 
 pub record Lawful (K : Kind) : Type 0 where
-  pub same : (x y : K .Value) → Dec (x ≡ y)
   pub below-refl : (x : K .Value) → K .below x x
   pub below-trans : (x y z : K .Value) → K .below x y → K .below y z → K .below x z
   pub below-antisym : (x y : K .Value) → K .below x y → K .below y x → x ≡ y

@@ -1,5 +1,5 @@
 -- Ranges of values: a lower and an upper end.
-use mathlib.Core.Path.{_≡_}
+use mathlib.Core.Path.{_≡_, ap}
 use Rattle.grades.specs.Kinds.{Kind}
 
 pub record Span (V : Type 0) : Type 0 where
@@ -8,6 +8,12 @@ pub record Span (V : Type 0) : Type 0 where
 
 abbrev pub span : {V : Type 0} → V → V → Span V
 span p q = record { low = p; high = q }
+
+-- two ranges are the same if both their ends are
+abbrev pub ends-same : {V : Type 0} (p q : Span V) → Dec (p .low ≡ q .low) → Dec (p .high ≡ q .high) → Dec (p ≡ q)
+ends-same p q (yes e) (yes f) = yes (λ i. record { low = e i; high = f i })
+ends-same {V} p q (yes e) (no n) = no (λ h. n (ap (λ (r : Span V). r .high) h))
+ends-same {V} p q (no n) d = no (λ h. n (ap (λ (r : Span V). r .low) h))
 
 -- ranges as a kind: order and operations end by end, the opposite with the ends exchanged
 abbrev pub spans : Kind → Kind
@@ -20,6 +26,7 @@ spans K = record {
   lowest = record { low = K .lowest; high = K .lowest };
   highest = record { low = K .highest; high = K .highest };
   of-gap = λ g. record { low = K .of-gap g; high = K .of-gap g };
+  same = λ p q. ends-same p q (K .same (p .low) (q .low)) (K .same (p .high) (q .high));
 }
 
 module _ (K : Kind) where

@@ -125,7 +125,7 @@ module _ {K : Kind} (L : Lawful K) where
     pub blame : (asked-at : ℕ) → ((k l u : ℕ) → Marked K rows x asked-at k u → Tests (row-at rows k) l → Q (x l u) (y l u)) → (k : ℕ) → k < length rows → (t : ℕ) →
         Wanted K rows (value (ranges K) rows x) asked-at k t → R (value (ranges K) rows x k t) (value (ranges K) rows y k t)
     blame asked-at marks = by-rows sound (λ k. (t : ℕ) → Wanted K rows v asked-at k t → R (v k t) (w k t)) λ k h each t wanted.
-        elim (L .same (v k t .low) (v k t .high)) [
+        elim (K .same (v k t .low) (v k t .high)) [
           | yes s ↦ calm (v k t) (w k t) s (squeezed (v k t) (w k t) (known k h .inside t) (known k h .fit′ t) s)
           | no ne ↦ subst₂ R (sym (value-is (ranges K) x sound k h t)) (sym (value-is (ranges K) y sound k h t))
               (row-kept (row-at rows k) t (sound .fits k h) (λ c p. let e = sound .earlier k c h p in known c (omega arith))

@@ -24,7 +24,7 @@ use Rattle.meaning.proofs.Untils.{lowest?}
 
 module _ {K : Kind} (L : Lawful K) (v : ℕ → ℕ → Span (K .Value)) where
   settled? : (p : Span (K .Value)) → Dec (Settled K p)
-  settled? p = L .same (p .low) (p .high)
+  settled? p = K .same (p .low) (p .high)
 
   open? : (left : ℕ → Span (K .Value)) (a b t w : ℕ) → Dec (Open K left a b t w)
   open? left a b t w =

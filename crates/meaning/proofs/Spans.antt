@@ -1,12 +1,10 @@
 -- Ranges over a lawful kind are a lawful kind.
-use mathlib.Core.Path.{ap, ap₂}
+use mathlib.Core.Path.{ap₂}
 use Rattle.grades.specs.Kinds.{Kind, Lawful}
-use Rattle.grades.specs.Ranges.{Span, span, spans}
-use Rattle.meaning.proofs.Deciding.{as?, both?}
+use Rattle.grades.specs.Ranges.{span, spans}
 
 pub spans-lawful : {K : Kind} → Lawful K → Lawful (spans K)
 spans-lawful {K} L = record {
-  same = λ p q. as? (λ e. ap₂ span (e .0) (e .1)) (λ e. (ap (λ (r : Span (K .Value)). r .low) e, ap (λ (r : Span (K .Value)). r .high) e)) (both? (L .same (p .low) (q .low)) (L .same (p .high) (q .high)));
   below-refl = λ p. (L .below-refl (p .low), L .below-refl (p .high));
   below-trans = λ p q r h k. (L .below-trans (p .low) (q .low) (r .low) (h .0) (k .0), L .below-trans (p .high) (q .high) (r .high) (h .1) (k .1));
   below-antisym = λ p q h k. ap₂ span (L .below-antisym (p .low) (q .low) (h .0) (k .0)) (L .below-antisym (p .high) (q .high) (h .1) (k .1));

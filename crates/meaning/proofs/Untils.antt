@@ -45,7 +45,7 @@ module _ (K : Kind) where
 
 module _ {K : Kind} (L : Lawful K) where
   pub lowest? : (p : Span (K .Value)) → Dec (Lowest K p)
-  lowest? p = L .same (p .high) (K .lowest)
+  lowest? p = K .same (p .high) (K .lowest)
 
   pub has-first : (left : ℕ → Span (K .Value)) (b t : ℕ) → (s : ℕ) × First-lowest K left b t s
   has-first left b t =

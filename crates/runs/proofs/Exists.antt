@@ -16,7 +16,7 @@ use Rattle.std.specs.declared.result.Result.{Result}
 use Rattle.std.specs.declared.result.Result.the-variants.{Ok, Err}
 use Rattle.std.proofs.shelf.Signed.{ints, clamps}
 use Rattle.grades.specs.Kinds.{Kind, Lawful, Tells}
-use Rattle.grades.specs.Ranges.{Span}
+use Rattle.grades.specs.Ranges.{Span, ends-same}
 use Rattle.rules.specs.declared.row.Row.{Row}
 use Rattle.rules.specs.declared.row.Row.the-variants.{Test, Not, And, Or, Eventually, Always, Until}
 use Rattle.rules.specs.Rows.{row-at, root, reach, Sound}
@@ -196,11 +196,7 @@ has-lines? s rows =
 
 module _ {K : Kind} (L : Lawful K) where
   span? : (p q : Span (K .Value)) → Dec (p ≡ q)
-  span? p q =
-      elim (L .same (p .low) (q .low)) [
-        | yes e ↦ elim (L .same (p .high) (q .high)) [ yes f ↦ yes (λ i. record { low = e i; high = f i }) | no n ↦ no (λ h. n (ap (λ (r : Span (K .Value)). r .high) h)) ]
-        | no n ↦ no (λ h. n (ap (λ (r : Span (K .Value)). r .low) h))
-      ]
+  span? p q = ends-same p q (K .same (p .low) (q .low)) (K .same (p .high) (q .high))
 
   module _ (e : ℕ) (s : State) (ends : Ends-at e s) (a : Table) where
     abbrev x : Readings

@@ -1,4 +1,5 @@
-use Rattle.grades.proofs.Lawful.{margins-lawful, level-path}
+use Rattle.grades.specs.Margins.{level-path}
+use Rattle.grades.proofs.Lawful.{margins-lawful}
 use Rattle.grades.proofs.Levels.{level, lower-level, upper-level, gap-level, tells-level}
 use Rattle.grades.proofs.margin.MarginGrade.the-impl.Needs as need
 
