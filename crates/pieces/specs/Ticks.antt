@@ -23,6 +23,10 @@ abbrev pub Changed : {C : Type 0} → (ℕ → C) → C → Option ℕ → Type 
 Changed f v None = Unit {0}
 Changed f v (Some n) = v ≡ f n → ⊥
 
+-- f changes no more from some tick on
+abbrev pub Settles : {C : Type 0} → (ℕ → C) → Type 0
+Settles f = (end : ℕ) × ((t : ℕ) → end ≤ t → f t ≡ f end)
+
 -- the sooner of two ticks
 abbrev pub sooner : Option ℕ → Option ℕ → Option ℕ
 sooner None o = o

@@ -22,6 +22,7 @@ use Rattle.rules.specs.declared.row.Row.the-variants.{Test, Not, And, Or, Event
 use Rattle.rules.specs.Rows.{row-at, root, reach, Sound}
 use Rattle.pieces.specs.declared.piece.Piece.{Piece}
 use Rattle.pieces.specs.Pieces.{Lists}
+use Rattle.pieces.specs.Ticks.{Settles}
 use Rattle.pieces.proofs.Chains.{only-one}
 use Rattle.pieces.proofs.Exists.{listed}
 use Rattle.meaning.specs.declared.reading.Reading.{Reading}
@@ -43,7 +44,7 @@ use Rattle.runs.specs.Calls.{Table, all, Has-lines, Row-lists, Tells-wanted, W
 use Rattle.runs.specs.Runs.{Call, on-job, judge, mark, Reply, Event, event, Replies, events, Turn, Ran}
 use Rattle.runs.specs.Law.{Run}
 use Rattle.runs.proofs.Turns.{made-is, set-reads, entry-passes, opened-reads}
-use Rattle.runs.proofs.Settling.{Settles, rows-settle}
+use Rattle.runs.proofs.Settling.{rows-settle}
 use Rattle.runs.proofs.Collecting.{collect, same-lists}
 
 -- conditions that can be told one after the other have a first that fails, or none

@@ -10,16 +10,13 @@ use Rattle.grades.specs.Ranges.{Span, spans}
 use Rattle.rules.specs.declared.row.Row.{Row}
 use Rattle.rules.specs.declared.row.Row.the-variants.{Test, Not, And, Or, Eventually, Always, Until}
 use Rattle.rules.specs.Rows.{row-at, Child, Sound}
+use Rattle.pieces.specs.Ticks.{Settles}
 use Rattle.meaning.specs.declared.reading.Reading.{Reading}
 use Rattle.meaning.specs.Readings.{Readings}
 use Rattle.meaning.specs.Limits.{range-of}
 use Rattle.meaning.specs.Values.{over, until-at, step, value}
 use Rattle.meaning.specs.Verdicts.{ranges}
 use Rattle.meaning.proofs.Rows.{by-rows, value-is}
-
--- f changes no more from some tick on
-abbrev pub Settles : {C : Type 0} → (ℕ → C) → Type 0
-Settles f = (end : ℕ) × ((t : ℕ) → end ≤ t → f t ≡ f end)
 
 module _ {C : Type 0} where
   over-moved : (op : C → C → C) (g h : ℕ → C) (s r n : ℕ) → ((i : ℕ) → g (s + i) ≡ h (r + i)) → over op g s n ≡ over op h r n

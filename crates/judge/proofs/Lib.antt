@@ -1,0 +1,12 @@
+pub mod Knowns
+pub mod Anys
+pub mod Sights
+pub mod Stretch-lists
+pub mod Row-marks
+pub mod Overs
+pub mod Goals
+pub mod RowSteps
+pub mod Stacks
+pub mod Row-lists
+pub mod Filling
+pub mod Pinned

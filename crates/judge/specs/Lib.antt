@@ -1,0 +1,9 @@
+pub mod Yes
+pub mod Parts
+pub mod Reaches
+pub mod Marks
+pub mod Trials
+pub mod Children
+pub mod Signals
+pub mod Places
+pub mod Judges
