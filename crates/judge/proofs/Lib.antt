@@ -9,4 +9,5 @@ pub mod RowSteps
 pub mod Stacks
 pub mod Row-lists
 pub mod Filling
+pub mod Want-steps
 pub mod Pinned

@@ -17,6 +17,7 @@ use Rattle.judge.specs.declared.trial.Trial.the-variants.{Loose, Lowest, Highe
 use Rattle.judge.specs.Parts.{any}
 use Rattle.judge.specs.Reaches.{sees, holds}
 use Rattle.judge.specs.Trials.{tried, asked}
+use Rattle.judge.specs.Places.{told, Stands, Ready}
 
 abbrev pub never : ℕ → Bool
 never t = false
@@ -34,3 +35,29 @@ child-says (Until a b l r) c asks low high limit u = cond (eqb c r) (any (λ t. 
 -- what a list says at each tick
 abbrev pub said : List (Piece Bool) → ℕ → Bool
 said ps t = at-from false ps t
+
+-- how far behind a tick the row's window ends
+abbrev pub far : Row → ℕ
+far (Test l s m) = 0
+far (Not d) = 0
+far (And l r) = 0
+far (Or l r) = 0
+far (Eventually a b d) = b
+far (Always a b d) = b
+far (Until a b l r) = b
+
+module _ (K : Kind) {G : Type 0} (value : G → K .Value) (begins : List ℕ) (ranges : List (Piece (Range G))) where
+  -- what the trial says of row c's list at each tick
+  abbrev pub row-says : Trial → ℕ → ℕ → Bool
+  row-says trial c t = tried K trial (told K value begins ranges c t)
+
+  -- where the child c of the row number k is wanted, by where the row is
+  abbrev pub passed-on : Row → ℕ → ℕ → ℕ → (ℕ → Bool) → ℕ → Bool
+  passed-on row k c limit want u = child-says row c (asked want (row-says Loose k)) (row-says Lowest) (row-says Higher) limit u
+
+-- the lists of the row and of its children are there, its wants are in order, and no window goes past the last u32
+pub record Askable {V : Type 0} (row : Row) (k limit : ℕ) (begins : List ℕ) (ranges : List (Piece V)) (want : List (Piece Bool)) : Type 0 where
+  pub ready : Ready row begins ranges
+  pub own : Stands begins ranges k
+  pub in-order : ordered want ≡ true
+  pub near : limit + far row < 4294967296

@@ -24,6 +24,7 @@ impl<const N: usize> Front<N> {
     pub(crate) fn push(&mut self, byte: u8)
         ensures { λ _. ⌜ held (now (self .exit)) ≡ take N (held (now (self .entry)) ++ byte ∷ []) ⌝ }
     {
+        // Of the slice, since the proof knows its length even where nothing is written.
         let room = self.bytes[..].len();
         if self.size < room {
             self.bytes[self.size] = byte;
