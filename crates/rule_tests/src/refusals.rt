@@ -5,6 +5,8 @@ use crate::texts::Text::Led;
 use crate::texts::Text::Nested;
 use crate::texts::Text::Plain;
 use crate::texts::Text::Trailed;
+use std::test::Fail;
+use std::test::check;
 
 pub(crate) static REFUSALS: [Case; 92] = [
     // The length.
@@ -119,3 +121,11 @@ pub(crate) static REFUSALS: [Case; 92] = [
     Case(Led(3, "F[0,250000000]", "a>=1"), Refused(19, 0)),
     Case(Led(16, "F[0,500000000]", "a>=1"), Refused(19, 0)),
 ];
+
+#[test]
+fn refusals_stand() -> Result<(), Fail> {
+    for case in &REFUSALS {
+        check(case.stands())?;
+    }
+    Ok(())
+}
