@@ -2,10 +2,9 @@
 use Rattle.std.specs.Prelude.{◌≡◌, Bool, true, false, not, ◌&&◌, ◌||◌, T, ℤ, pos, negsuc, ◌≤ℤ◌, int_le, refl}
 use Rattle.std.proofs.Common.{arith, le→leb, zero-le}
 use Rattle.std.proofs.lemmas.Int.{ints, clamps}
-use Rattle.grades.specs.Gaps.{GapFits}
 use Rattle.grades.specs.Kinds.{Lawful}
 use Rattle.grades.specs.Truths.{truths, Implied}
-use Rattle.grades.specs.Margins.{level_path, margins, Level}
+use Rattle.grades.specs.Margins.{level_path, margins}
 
 implied_refl : (x : Bool) → Implied x x
 implied_refl true = tt

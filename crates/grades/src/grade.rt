@@ -40,7 +40,7 @@ pub trait Grade: Copy {
 
 // Whether two grades stand for one value, by what every grade promises and no more.
 pub fn one_value<G: Grade>(one: G, other: G) -> bool
-    ensures { Tells result (value one ≡ value other) }
+    ensures { Tells result (G.value one ≡ G.value other) }
 {
     one.same(other)
 }

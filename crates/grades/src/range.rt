@@ -16,7 +16,7 @@ pub struct Range<G> {
 impl<G: Grade> Range<G> {
     // End by end.
     pub fn lower(self, other: Range<G>) -> Range<G>
-        ensures { worth kind value result ≡ (spans kind).meet (worth kind value self) (worth kind value other) }
+        ensures { worth G.kind G.value result ≡ (spans G.kind).meet (worth G.kind G.value self) (worth G.kind G.value other) }
     {
         Range {
             lower: self.lower.lower(other.lower),
@@ -26,7 +26,7 @@ impl<G: Grade> Range<G> {
 
     // End by end.
     pub fn upper(self, other: Range<G>) -> Range<G>
-        ensures { worth kind value result ≡ (spans kind).join (worth kind value self) (worth kind value other) }
+        ensures { worth G.kind G.value result ≡ (spans G.kind).join (worth G.kind G.value self) (worth G.kind G.value other) }
     {
         Range {
             lower: self.lower.upper(other.lower),
@@ -36,7 +36,7 @@ impl<G: Grade> Range<G> {
 
     // The ends change places, since opposites turn the order round.
     pub fn opposite(self) -> Range<G>
-        ensures { worth kind value result ≡ (spans kind).opposite (worth kind value self) }
+        ensures { worth G.kind G.value result ≡ (spans G.kind).opposite (worth G.kind G.value self) }
     {
         Range {
             lower: self.upper.opposite(),
@@ -45,26 +45,26 @@ impl<G: Grade> Range<G> {
     }
 
     pub fn same(self, other: Range<G>) -> bool
-        ensures { Tells result (worth kind value self ≡ worth kind value other) }
+        ensures { Tells result (worth G.kind G.value self ≡ worth G.kind G.value other) }
     {
         self.lower.same(other.lower) & self.upper.same(other.upper)
     }
 
     // Whether nothing is left open.
     pub fn settled(self) -> bool
-        ensures { Tells result (Settled kind (worth kind value self)) }
+        ensures { Tells result (Settled G.kind (worth G.kind G.value self)) }
     {
         self.lower.same(self.upper)
     }
 
     pub fn inside(self, other: Range<G>) -> bool
-        ensures { Tells result (Inside kind (worth kind value self) (worth kind value other)) }
+        ensures { Tells result (Inside G.kind (worth G.kind G.value self) (worth G.kind G.value other)) }
     {
         other.lower.at_most(self.lower) & self.upper.at_most(other.upper)
     }
 
     pub fn holds(self, grade: G) -> bool
-        ensures { Tells result (Holds kind (worth kind value self) (value grade)) }
+        ensures { Tells result (Holds G.kind (worth G.kind G.value self) (G.value grade)) }
     {
         self.lower.at_most(grade) & grade.at_most(self.upper)
     }

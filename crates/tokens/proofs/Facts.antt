@@ -1,6 +1,6 @@
 -- What holds of every text that falls into tokens, for those who read on from its tokens.
 use Rattle.std.proofs.Common.{◌≡◌, ℕ, zero, suc, ◌+◌, ◌<◌, ◌≤◌, List, [], ◌++◌, length, get_or, drop, Some, sym, refl, ap, ◌∙◌, subst, arith}
-use Rattle.std.specs.List.{AllByRecursion as All}
+use Rattle.std.specs.List.{AllByRecursion}
 use Rattle.std.proofs.lemmas.List.{length-append, drop-drop, drop_at}
 use Rattle.std.proofs.ByRecursion.{All-get_or, All-weaker}
 use Rattle.tokens.specs.declared.token.Token.{Token}
@@ -23,7 +23,7 @@ took {names} (word {w = w} {after = after} {token = t} e s l r) =
     omega (arith, ap length e, length-append w after, some_bytes names w after t s l)
 
 -- each place lies between the ends
-between_ends : {names : List (List ℕ)} {p q : ℕ} {text rest ps : List ℕ} {ts : List Token} → Reads names p text q rest ps ts → (p ≤ q) × All (λ x. (p ≤ x) × (x < q)) ps
+between_ends : {names : List (List ℕ)} {p q : ℕ} {text rest ps : List ℕ} {ts : List Token} → Reads names p text q rest ps ts → (p ≤ q) × AllByRecursion (λ x. (p ≤ x) × (x < q)) ps
 between_ends nothing = (omega arith, tt)
 between_ends (blank b r) = let h = between_ends r in (omega (arith, h.0), All-weaker _ _ (λ x i. (omega (arith, i.0), i.1)) _ h.1)
 between_ends {names} (word {w = w} {after = after} {token = t} e s l r) =
@@ -31,7 +31,7 @@ between_ends {names} (word {w = w} {after = after} {token = t} e s l r) =
     let some = some_bytes names w after t s l in
     (omega (arith, h.0), ((omega arith, omega (arith, h.0)), All-weaker _ _ (λ x i. (omega (arith, i.0), i.1)) _ h.1))
 
-spelled : {names : List (List ℕ)} {p q : ℕ} {text rest ps : List ℕ} {ts : List Token} → Reads names p text q rest ps ts → All (λ t. (w : List ℕ) × Spells names w t) ts
+spelled : {names : List (List ℕ)} {p q : ℕ} {text rest ps : List ℕ} {ts : List Token} → Reads names p text q rest ps ts → AllByRecursion (λ t. (w : List ℕ) × Spells names w t) ts
 spelled nothing = tt
 spelled (blank b r) = spelled r
 spelled (word {w = w} e s l r) = ((w, s), spelled r)
@@ -71,7 +71,7 @@ module _ (names : List (List ℕ)) (text places : List ℕ) (tokens : List Token
   pub tokens_few : length tokens ≤ length text
   tokens_few = omega (arith, took split)
 
-  pub places_within : All (λ x. x < length text) places
+  pub places_within : AllByRecursion (λ x. x < length text) places
   places_within = All-weaker _ _ (λ x h. h.1) _ (between_ends split).1
 
   pub places_rise : (i j : ℕ) → i < j → j < length places → get_or places i 0 < get_or places j 0
@@ -80,13 +80,13 @@ module _ (names : List (List ℕ)) (text places : List ℕ) (tokens : List Token
   pub token_stands : (i : ℕ) (d : Token) → i < length tokens → Stands names text (get_or places i 0) (get_or tokens i d)
   token_stands = stands text refl split
 
-  pub numbers_small : All (λ t. (n : ℕ) → t ≡ Number n → n < 1000000000) tokens
+  pub numbers_small : AllByRecursion (λ t. (n : ℕ) → t ≡ Number n → n < 1000000000) tokens
   numbers_small = All-weaker _ _ (λ t h n e. small n (subst (Spells names h.0) e h.1)) _ (spelled split)
     where
       small : (n : ℕ) {w : List ℕ} → Spells names w (Number n) → n < 1000000000
       small n {w} s = omega (arith, s.1, decimal_below w 9 s.0.all s.0.short)
 
-  pub lines_known : All (λ t. (k : ℕ) → t ≡ Name (Some k) → Named names (get_or names k []) k × IsName (get_or names k [])) tokens
+  pub lines_known : AllByRecursion (λ t. (k : ℕ) → t ≡ Name (Some k) → Named names (get_or names k []) k × IsName (get_or names k [])) tokens
   lines_known = All-weaker _ _ (λ t h k e. known k h.0 (subst (Spells names h.0) e h.1)) _ (spelled split)
     where
       known : (k : ℕ) (w : List ℕ) → Spells names w (Name (Some k)) → Named names (get_or names k []) k × IsName (get_or names k [])

@@ -1,7 +1,7 @@
 -- What stands at the front of a text, word or malformed run, is one piece only.
 use Rattle.std.proofs.Common.{◌≡◌, ℕ, ◌<◌, cond, eqb, List, [], ◌∷◌, ◌++◌, length, codes, Option, sym, refl, ap, ◌∙◌, subst, arith}
 use mathlib.Core.List.{head-eq_of_cons-eq, tail-eq_of_cons-eq}
-use Rattle.std.specs.List.{AllByRecursion as All}
+use Rattle.std.specs.List.{AllByRecursion}
 use Rattle.tokens.specs.declared.token.Token.{Token}
 use Rattle.tokens.specs.declared.token.Token.TheVariants.{Or, And, Not, Open, Close, Left, Right, Comma, Minus, Always, Eventually, Until, AtLeast, AtMost, Name, Number}
 use Rattle.tokens.specs.Words.{Small, Digit, Blank, NameByte, Begins, IsName, IsNumber, decimal, LineOf, Spells}
@@ -36,7 +36,7 @@ fronts : (P Q : ℕ → Type 0) → ((b : ℕ) → P b → Q b → ⊥) → (w r
 fronts P Q apart w rest v tail e p q = clash P Q apart (v ++ tail) (subst (Begins P) e (begins_more P w rest p)) (begins_more Q v tail q)
 
 -- a longest run is one only
-same_run : (P : ℕ → Type 0) (w rest v tail : List ℕ) → All P w → (Begins P rest → ⊥) → All P v → (Begins P tail → ⊥) → w ++ rest ≡ v ++ tail → w ≡ v
+same_run : (P : ℕ → Type 0) (w rest v tail : List ℕ) → AllByRecursion P w → (Begins P rest → ⊥) → AllByRecursion P v → (Begins P tail → ⊥) → w ++ rest ≡ v ++ tail → w ≡ v
 same_run P [] rest [] tail a n b m e = refl
 same_run P [] rest (y ∷ v) tail a n b m e = absurd (n (subst (Begins P) (sym e) b.0))
 same_run P (x ∷ w) rest [] tail a n b m e = absurd (m (subst (Begins P) e a.0))
@@ -101,8 +101,8 @@ view names w (Number n) h = number (ap Number h.1) h.0
 -- a piece of a text: a symbol, or a longest run of name bytes or of digits
 pub data Piece (w rest : List ℕ) : Type 0 where
   sign_piece : (t : Token) → Begins Strange w → ((rest : List ℕ) → lead (w ++ rest) ≡ front w t) → Piece w rest
-  name_piece : Begins Small w → All NameByte w → (Begins NameByte rest → ⊥) → Piece w rest
-  digit_piece : Begins Digit w → All Digit w → (Begins Digit rest → ⊥) → Piece w rest
+  name_piece : Begins Small w → AllByRecursion NameByte w → (Begins NameByte rest → ⊥) → Piece w rest
+  digit_piece : Begins Digit w → AllByRecursion Digit w → (Begins Digit rest → ⊥) → Piece w rest
 
 pub word_piece : {names : List (List ℕ)} {w : List ℕ} {t : Token} → View names w t → (rest : List ℕ) → Longest w rest → Piece w rest
 word_piece {names} {w} {t} (symbol strange leads) rest long = sign_piece t strange leads

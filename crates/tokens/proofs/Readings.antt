@@ -1,6 +1,6 @@
 -- Readings from the left, put together.
 use Rattle.std.proofs.Common.{◌≡◌, ℕ, ◌+◌, ◌≤◌, List, [], ◌∷◌, ◌++◌, length, drop, sym, subst, arith}
-use Rattle.std.specs.List.{between, AllByRecursion as All}
+use Rattle.std.specs.List.{between, AllByRecursion}
 use Rattle.std.proofs.lemmas.List.{drop_all}
 use Rattle.std.proofs.lemmas.List.Edits.{length-between}
 use Rattle.tokens.specs.declared.fault.TokenFault.{TokenFault}
@@ -17,7 +17,7 @@ reads_on nothing s = s
 reads_on (blank b r) s = blank b (reads_on r s)
 reads_on (word e w l r) s = word e w l (reads_on r s)
 
-over_blanks : {names : List (List ℕ)} (p q : ℕ) (bs rest : List ℕ) → All Blank bs → p + length bs ≡ q → Reads names p (bs ++ rest) q rest [] []
+over_blanks : {names : List (List ℕ)} (p q : ℕ) (bs rest : List ℕ) → AllByRecursion Blank bs → p + length bs ≡ q → Reads names p (bs ++ rest) q rest [] []
 over_blanks {names} p q [] rest all e = let same : p ≡ q = omega arith in subst (λ n. Reads names p rest n rest [] []) same nothing
 over_blanks p q (b ∷ bs) rest all e = blank all.0 (over_blanks (p + 1) q bs rest all.1 (omega arith))
 

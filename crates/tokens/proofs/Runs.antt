@@ -1,6 +1,6 @@
 -- Runs of bytes of one class, and what a part of a text begins with.
 use Rattle.std.proofs.Common.{ℕ, ◌+◌, ◌<◌, ◌≤◌, List, length, get_or, drop, sym, subst}
-use Rattle.std.specs.List.{between, AllByRecursion as All}
+use Rattle.std.specs.List.{between, AllByRecursion}
 use Rattle.std.proofs.lemmas.List.{drop_more, drop_all}
 use Rattle.std.proofs.lemmas.List.Edits.{between_more}
 use Rattle.std.proofs.ByRecursion.{All-push}
@@ -16,5 +16,5 @@ module _ (P : ℕ → Type 0) (text : List ℕ) (i : ℕ) where
   pub ends_at : length text ≤ i → Begins P (drop i text) → ⊥
   ends_at h b = subst (Begins P) (drop_all i text h) b
 
-  pub all_more : (from : ℕ) → from ≤ i → i < length text → All P (between from i text) → P (get_or text i 0) → All P (between from (i + 1) text)
-  all_more from on h all p = subst (All P) (sym (between_more text from i 0 on h)) (All-push P _ _ all p)
+  pub all_more : (from : ℕ) → from ≤ i → i < length text → AllByRecursion P (between from i text) → P (get_or text i 0) → AllByRecursion P (between from (i + 1) text)
+  all_more from on h all p = subst (AllByRecursion P) (sym (between_more text from i 0 on h)) (All-push P _ _ all p)

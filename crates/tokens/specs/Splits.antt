@@ -1,6 +1,6 @@
 -- How a rule text falls into words from the left, and where it does not.
 use Rattle.std.specs.Prelude.{◌≡◌, ℕ, ◌+◌, ◌<◌, List, [], ◌∷◌, ◌++◌, length, drop}
-use Rattle.std.specs.List.{AllByRecursion as All}
+use Rattle.std.specs.List.{AllByRecursion}
 use Rattle.tokens.specs.declared.token.Token.{Token}
 use Rattle.tokens.specs.Words.{Small, Digit, Blank, NameByte, Begins, Spells}
 
@@ -17,9 +17,9 @@ pub data Reads (names : List (List ℕ)) : ℕ → List ℕ → ℕ → List ℕ
 
 -- a run of name bytes or of digits that is neither a name nor a number
 pub data Malformed (w : List ℕ) : Type 0 where
-  long_name : Begins Small w → All NameByte w → 8 < length w → Malformed w
-  long_number : Begins Digit w → All Digit w → 9 < length w → Malformed w
-  leading_zero : Begins (λ b. b ≡ 48) w → All Digit w → 1 < length w → Malformed w
+  long_name : Begins Small w → AllByRecursion NameByte w → 8 < length w → Malformed w
+  long_number : Begins Digit w → AllByRecursion Digit w → 9 < length w → Malformed w
+  leading_zero : Begins (λ b. b ≡ 48) w → AllByRecursion Digit w → 1 < length w → Malformed w
 
 -- no token stands at the front of text: its first byte begins none, or it begins with a malformed run
 pub data NoToken (names : List (List ℕ)) (text : List ℕ) : Type 0 where

@@ -1,6 +1,6 @@
 -- What the lexer's inner functions answer, of a byte and of a place of a text.
 use Rattle.std.specs.Prelude.{◌≡◌, ℕ, ◌<◌, ◌≤◌, List, length, drop, codes, Result, MatchResult, ◌≢◌}
-use Rattle.std.specs.List.{between, AllByRecursion as All}
+use Rattle.std.specs.List.{between, AllByRecursion}
 use Rattle.tokens.specs.declared.fault.TokenFault.{TokenFault}
 use Rattle.tokens.specs.declared.fault.TokenFault.TheVariants.{Malformed}
 use Rattle.tokens.specs.declared.lexer.Class.{Class}
@@ -17,16 +17,16 @@ Of Class.Name = NameByte
 
 -- a byte that is no token alone, and one that is none with `=` behind it
 abbrev pub NoSign : ℕ → Type 0
-NoSign b = All (λ s. b ≢ s) (codes "|&!()[],-GFU")
+NoSign b = AllByRecursion (λ s. b ≢ s) (codes "|&!()[],-GFU")
 
 abbrev pub NoOrder : ℕ → Type 0
-NoOrder b = All (λ s. b ≢ s) (codes "><")
+NoOrder b = AllByRecursion (λ s. b ≢ s) (codes "><")
 
 -- the longest run of such bytes from at on ends before end
 pub record RunTo (P : ℕ → Type 0) (text : List ℕ) (at end : ℕ) : Type 0 where
   pub on : at ≤ end
   pub within : end ≤ length text
-  pub all : All P (between at end text)
+  pub all : AllByRecursion P (between at end text)
   pub over : Begins P (drop end text) → ⊥
 
 -- the word from at on ends before end, and is this token

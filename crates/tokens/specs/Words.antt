@@ -1,6 +1,6 @@
 -- The words of a rule text: which bytes they are written with, and which token each of them is.
 use Rattle.std.specs.Prelude.{◌≡◌, ℕ, ◌+◌, ◌-◌, ◌*◌, ◌^◌, ◌<◌, ◌≤◌, ◌⊎◌, List, [], ◌∷◌, length, get_or, Some, None, codes, Option, ◌≢◌, slice_index_or}
-use Rattle.std.specs.List.{AllByRecursion as All}
+use Rattle.std.specs.List.{AllByRecursion}
 use Rattle.tokens.specs.declared.token.Token.{Token}
 use Rattle.tokens.specs.declared.token.Token.TheVariants.{Or, And, Not, Open, Close, Left, Right, Comma, Minus, Always, Eventually, Until, AtLeast, AtMost, Name, Number}
 
@@ -26,13 +26,13 @@ Begins P (b ∷ bs) = P b
 -- a small letter and up to seven small letters and digits
 pub record IsName (w : List ℕ) : Type 0 where
   pub letter : Begins Small w
-  pub all : All NameByte w
+  pub all : AllByRecursion NameByte w
   pub short : length w ≤ 8
 
 -- one to nine digits, of which the first is 0 only in 0 itself
 pub record IsNumber (w : List ℕ) : Type 0 where
   pub digit : Begins Digit w
-  pub all : All Digit w
+  pub all : AllByRecursion Digit w
   pub short : length w ≤ 9
   pub plain : Begins (λ b. b ≡ 48) w → length w ≡ 1
 

@@ -1,6 +1,6 @@
 // Splits a rule text into its tokens.
 ghost use Rattle.std.specs.Prelude.{◌≡◌, ℕ, ◌<◌, ◌≤◌, List, [], ◌∷◌, length, drop, Decides, MatchOption, MatchResult};
-ghost use Rattle.std.specs.List.{AllByRecursion as All};
+ghost use Rattle.std.specs.List.{AllByRecursion};
 ghost use Rattle.tokens.specs.Words.{Small, Digit, Blank, Begins, decimal, LineOf, Spells};
 ghost use Rattle.tokens.specs.Answers.{texts, Tokenized, Refused};
 ghost use Rattle.tokens.specs.Steps.{Of, RunTo, NoSign, NoOrder, ReadAt};
@@ -72,7 +72,7 @@ fn line_of(names: &[&[u8]], name: &[u8]) -> Option<u8>
 
 // The number that the digits write.
 fn value_of(digits: &[u8]) -> u32
-    requires all { All Digit digits.now }
+    requires all { AllByRecursion Digit digits.now }
     requires short { length digits.now ≤ 9 }
     ensures { result ≡ decimal digits.now }
 {

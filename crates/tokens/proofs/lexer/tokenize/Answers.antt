@@ -7,17 +7,17 @@ pub loop-at-init : goal.loop-at-init
 loop-at-init c =
     let new = c.new-tokens.result in
     let none = c.new-tokens.ensures in
-    begun c.run-end-at.ensures (ap (λ n. take n new.places) none) (ap (λ n. take n new.tokens) none) none
+    begun c.run_end-at.ensures (ap (λ n. take n new.places) none) (ap (λ n. take n new.tokens) none) none
 
 pub loop-at-preserved : goal.loop-at-preserved
 loop-at-preserved c =
     let pushed = c.push.ensures in
-    gone_on c.loop-at.invariant c.in-ok-word.ensures c.run-end-at-in-loop-at.ensures pushed.places pushed.tokens pushed.count
+    gone_on c.loop-at.invariant c.in_ok-word.ensures c.run_end-at-in-loop-at.ensures pushed.places pushed.tokens pushed.count
 
 pub returns : goal.returns
-returns c = record { short = c.if-text-gt-TEXT-BYTES.false; split = ended c.loop-at.invariant c.loop-at-test.false }
+returns c = record { short = c.if-text-gt-TEXT_BYTES.false; split = ended c.loop-at.invariant c.loop-at-test.false }
 
-pub returns-in-err-word : goal.returns-in-err-word
-returns-in-err-word c =
-    let p = err_from_is_err_and c.from-residual.result c.from-residual.ensures.1 in
-    rw (p.1, p.2) (stopped _ c.loop-at.invariant c.in-err-word.ensures c.if-text-gt-TEXT-BYTES.false)
+pub returns-in_err-word : goal.returns-in_err-word
+returns-in_err-word c =
+    let p = err_from_is_err_and c.from_residual.result c.from_residual.ensures.1 in
+    rw (p.1, p.2) (stopped _ c.loop-at.invariant c.in_err-word.ensures c.if-text-gt-TEXT_BYTES.false)

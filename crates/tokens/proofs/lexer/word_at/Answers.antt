@@ -4,13 +4,13 @@ use Rattle.tokens.specs.Words.{Small, Digit}
 use Rattle.tokens.proofs.Runs.{begins_at, at_begins}
 use Rattle.tokens.proofs.lexer.word_at.Goals as goal
 
-pub number-at-requires : goal.number-at-requires
-number-at-requires c =
+pub number_at-requires : goal.number_at-requires
+number_at-requires c =
     let here = c.requires.within in
     record { within = here; digit = begins_at Digit _ _ here (c.belongs.ensures.0 c.if-belongs.true) }
 
-pub name-at-requires : goal.name-at-requires
-name-at-requires c =
+pub name_at-requires : goal.name_at-requires
+name_at-requires c =
     let here = c.requires.within in
     record {
       within = here;
@@ -18,8 +18,8 @@ name-at-requires c =
           begins_at Small _ _ here (⊎_elim (λ s. s) (λ d. absurd (both_ways _ c.if-belongs.false (c.belongs.ensures.1 d))) (c.belongs-else-belongs.ensures.0 c.if-belongs-2.true));
     }
 
-pub symbol-at-requires : goal.symbol-at-requires
-symbol-at-requires c =
+pub symbol_at-requires : goal.symbol_at-requires
+symbol_at-requires c =
     let here = c.requires.within in
     record {
       within = here;

@@ -20,5 +20,5 @@ lowest-tells c = level_path _ _ c.ensures
 pub highest-tells : goal.highest-tells
 highest-tells c = level_path _ _ c.ensures
 
-pub from-gap-tells : goal.from-gap-tells
-from-gap-tells c = gap_level c.args.gap.number c.args.gap.ok (level c.result) c.ensures
+pub from_gap-tells : goal.from_gap-tells
+from_gap-tells c = gap_level c.args.gap.number c.args.gap.ok (level c.result) c.ensures
