@@ -1,4 +1,6 @@
 // Reads names and a rule text from standard input, and prints the rule's rows or its refusal.
+#![tactic(auto)]
+
 ghost use Rattle.std.specs.Prelude.{◌≡◌, MatchResult};
 ghost use Rattle.rule_check.specs.Reading.{Hears, HearsOn};
 

@@ -1,11 +1,11 @@
 -- A text is answered the same over cut names, and a text that is too long by its beginning.
-use Rattle.std.proofs.Common.{◌≡◌, ℕ, ◌<◌, ◌≤◌, List, [], ◌∷◌, ◌++◌, length, get_or, take, Some, None, Option, sym, refl, ap, ◌∙◌, subst, ⊎_elim, arith}
+use Rattle.std.proofs.Common.{◌≡◌, ℕ, ◌<◌, ◌≤◌, List, [], ◌∷◌, length, get_or, take, Some, None, Option, sym, ap, ◌∙◌, subst, ⊎_elim, arith}
 use Rattle.std.proofs.lemmas.List.{take_all, take-take, length-take, length-take-le, get_or_past}
 use Rattle.std.proofs.lemmas.Bool.{cases_lt}
 use Rattle.tokens.specs.declared.token.Token.{Token}
 use Rattle.tokens.specs.declared.token.Token.TheVariants.{Or, And, Not, Open, Close, Left, Right, Comma, Minus, Always, Eventually, Until, AtLeast, AtMost, Name, Number}
-use Rattle.tokens.specs.Words.{Small, Begins, IsName, Named, LineOf, Spells}
-use Rattle.tokens.specs.Splits.{Longest, Reads, nothing, blank, word, NoToken, no_word, no_form, Split, Stuck}
+use Rattle.tokens.specs.Words.{Small, Begins, IsName, LineOf, Spells}
+use Rattle.tokens.specs.Splits.{Reads, nothing, blank, word, NoToken, no_word, no_form}
 use Rattle.rules.specs.Texts.{Answer, Answered, empty, long, no_token, parsed}
 use Rattle.rule_lines.specs.Lines.{parts}
 use Rattle.rule_lines.specs.Kept.{Cut}

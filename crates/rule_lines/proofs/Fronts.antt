@@ -1,6 +1,6 @@
 -- The beginning of a list, when one more element comes.
-use Rattle.std.proofs.Common.{◌≡◌, ℕ, ◌+◌, ◌-◌, ◌<◌, ◌≤◌, min, List, [], ◌∷◌, ◌++◌, length, take, set, sym, refl, ap, ◌∙◌, ⊎_elim, arith}
-use Rattle.std.proofs.lemmas.List.{take_all, take-append-le, take-take, take_more_set, length_push, length-take, length-take-le}
+use Rattle.std.proofs.Common.{◌≡◌, ℕ, ◌+◌, ◌-◌, ◌<◌, ◌≤◌, min, List, [], ◌∷◌, ◌++◌, length, take, set, sym, ap, ◌∙◌, ⊎_elim, arith}
+use Rattle.std.proofs.lemmas.List.{take_all, take-append-le, take-take, take_more_set, length_push, length-take-le}
 use Rattle.std.proofs.lemmas.Bool.{cases_lt}
 
 -- one element is written behind the first k

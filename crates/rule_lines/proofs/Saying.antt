@@ -1,6 +1,6 @@
 -- The input is put together of its names and its text, in one way only.
-use Rattle.std.proofs.Common.{◌≡◌, ℕ, ◌<◌, Bool, true, false, cond, eqb, ◌⊎◌, List, [], ◌∷◌, ◌++◌, length, sym, refl, ap, ◌∙◌, subst, inl, inr, ⊎_elim, arith}
-use Rattle.std.specs.List.{AllByRecursion as All}
+use Rattle.std.proofs.Common.{◌≡◌, ℕ, ◌<◌, Bool, true, false, cond, eqb, List, [], ◌∷◌, ◌++◌, length, sym, refl, ap, ◌∙◌, subst, inl, inr, ⊎_elim, arith}
+use Rattle.std.specs.List.{AllByRecursion}
 use Rattle.std.proofs.lemmas.Bool.{eqb-true, eqb-false, ne_eqb, cases_Bool}
 use Rattle.rule_lines.specs.Lines.{before, behind, has, later_parts, parts, names_in, text_in, spaced, Without, Says}
 use Rattle.rule_lines.proofs.Splitting.{before_none, behind_none}
@@ -48,9 +48,9 @@ spaced_parts (b ∷ line) =
       | false ↦ λ e. spaced_onto b (before 32 line) (later_parts line) ∙ ap (λ (v : List ℕ). b ∷ v) (spaced_parts line)
     ] refl
 
-clean_later : (line : List ℕ) → All (Without 32) (later_parts line)
+clean_later : (line : List ℕ) → AllByRecursion (Without 32) (later_parts line)
 clean_later [] = tt
-clean_later (b ∷ line) = elim (eqb b 32) as (λ (t : Bool). All (Without 32) (cond t (parts line) (later_parts line))) [ true ↦ (clean 32 line, clean_later line) | false ↦ clean_later line ]
+clean_later (b ∷ line) = elim (eqb b 32) as (λ (t : Bool). AllByRecursion (Without 32) (cond t (parts line) (later_parts line))) [ true ↦ (clean 32 line, clean_later line) | false ↦ clean_later line ]
 
 pub says : (bytes : List ℕ) → Says bytes (names_in bytes) (text_in bytes)
 says bytes =
@@ -85,7 +85,7 @@ unfolding onto
 parts_behind [] rest h = refl
 parts_behind (b ∷ n) rest h = parts_onto b (n ++ (32 ∷ rest)) h.0 ∙ ap (onto b) (parts_behind n rest h.1)
 
-parts_spaced : (names : List (List ℕ)) → 0 < length names → All (Without 32) names → parts (spaced names) ≡ names
+parts_spaced : (names : List (List ℕ)) → 0 < length names → AllByRecursion (Without 32) names → parts (spaced names) ≡ names
 parts_spaced [] some h = absurd (omega arith)
 parts_spaced (n ∷ []) some h = parts_one n h.0
 parts_spaced (n ∷ (m ∷ ns)) some h = parts_behind n (spaced (m ∷ ns)) h.0 ∙ ap (λ (v : List (List ℕ)). n ∷ v) (parts_spaced (m ∷ ns) (omega arith) h.1)

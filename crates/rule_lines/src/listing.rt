@@ -11,7 +11,7 @@ use rules::rule::Rule;
 use std::fmt;
 
 fn write_row<W: fmt::Write>(number: usize, row: Row, f: &mut fmt::Formatter<W>) -> fmt::Result
-    ensures { WritesOnOk write_str_gives f.old result (row_line number row) f.new }
+    ensures { WritesOnOk W.write_str_gives f.old result (row_line number row) f.new }
 {
     let row = RowLine(row);
     writeln!(f, "{number} {row}")
@@ -19,7 +19,7 @@ fn write_row<W: fmt::Write>(number: usize, row: Row, f: &mut fmt::Formatter<W>) 
 
 // A line for each row, with its number.
 fn write_rows<W: fmt::Write>(rows: &[Row], f: &mut fmt::Formatter<W>) -> fmt::Result
-    ensures { WritesOnOk write_str_gives f.old result (row_lines 0 rows.now) f.new }
+    ensures { WritesOnOk W.write_str_gives f.old result (row_lines 0 rows.now) f.new }
 {
     for k in 0..rows.len() {
         write_row(k, rows[k], f)?;
@@ -28,14 +28,14 @@ fn write_rows<W: fmt::Write>(rows: &[Row], f: &mut fmt::Formatter<W>) -> fmt::Re
 }
 
 fn write_total<W: fmt::Write>(count: usize, reach: u32, f: &mut fmt::Formatter<W>) -> fmt::Result
-    ensures { WritesOnOk write_str_gives f.old result (last_line count reach) f.new }
+    ensures { WritesOnOk W.write_str_gives f.old result (last_line count reach) f.new }
 {
     writeln!(f, "{count} rows, reach {reach}")
 }
 
 // The rows, and then how many they are and how far they look.
 fn write_table<W: fmt::Write>(rule: &Rule, f: &mut fmt::Formatter<W>) -> fmt::Result
-    ensures { WritesOnOk write_str_gives f.old result (table_text (table_of rule.now)) f.new }
+    ensures { WritesOnOk W.write_str_gives f.old result (table_text (table_of rule.now)) f.new }
 {
     let rows = rule.rows();
     write_rows(rows, f)?;
@@ -44,7 +44,7 @@ fn write_table<W: fmt::Write>(rule: &Rule, f: &mut fmt::Formatter<W>) -> fmt::Re
 
 // The number of the refusal and its byte of the text.
 fn write_refusal<W: fmt::Write>(fault: RuleFault, f: &mut fmt::Formatter<W>) -> fmt::Result
-    ensures { WritesOnOk write_str_gives f.old result (refusal_text fault) f.new }
+    ensures { WritesOnOk W.write_str_gives f.old result (refusal_text fault) f.new }
 {
     let number = fault.number();
     let place = fault.place();

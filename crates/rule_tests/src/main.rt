@@ -1,4 +1,6 @@
 // Runs rule texts, whole inputs and words at the edges of their rules, and prints what each is answered.
+#![tactic(auto)]
+
 mod inputs;
 mod outcome;
 mod refusals;

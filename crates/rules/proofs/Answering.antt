@@ -1,5 +1,5 @@
 -- From the lexer's answer to the whole text's.
-use Rattle.std.proofs.Common.{◌≡◌, ℕ, ◌<◌, ◌≤◌, List, [], ◌∷◌, ◌++◌, length, Err, Result, sym, refl, ap, ◌∙◌, subst, arith}
+use Rattle.std.proofs.Common.{◌≡◌, ℕ, ◌<◌, List, [], ◌∷◌, ◌++◌, length, Err, refl, subst}
 use Rattle.std.specs.List.{AllByRecursion as All}
 use Rattle.tokens.specs.declared.token.Token.{Token}
 use Rattle.tokens.specs.declared.token.Token.TheVariants.{Number}
@@ -10,7 +10,7 @@ use Rattle.tokens.specs.Splits.{Split}
 use Rattle.tokens.proofs.Facts.{numbers_small}
 use Rattle.rules.specs.declared.fault.RuleFault.TheVariants as fault
 use Rattle.rules.specs.Readers.{ShortNumbers}
-use Rattle.rules.specs.Texts.{Answer, Answered, empty, long, no_token, parsed}
+use Rattle.rules.specs.Texts.{Answered, long, no_token}
 
 pub refused : (names : List (List ℕ)) (text : List ℕ) (f : TokenFault) → 0 < length text → Refused names text f → Answered names text (Err (fault.Token f))
 refused names text TooLong some h = long h refl

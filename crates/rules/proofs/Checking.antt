@@ -1,12 +1,11 @@
 -- The checks behind the grammar, one after the other, and the rule that passes them all.
-use Rattle.std.proofs.Common.{◌≡◌, ℕ, suc, ◌+◌, ◌<◌, ◌≤◌, Bool, true, false, cond, ltb, List, length, take, Some, None, Ok, Err, Option, sym, refl, ap, ◌∙◌, subst, arith, le-ltb, lt-ltb}
+use Rattle.std.proofs.Common.{◌≡◌, ℕ, suc, ◌+◌, ◌<◌, ◌≤◌, Bool, true, cond, List, length, take, Some, None, Ok, Err, Option, sym, ap, ◌∙◌, subst, arith, le-ltb, lt-ltb}
 use Rattle.tokens.specs.declared.token.Token.{Token}
 use Rattle.rules.specs.declared.row.Row.{Row}
 use Rattle.rules.specs.declared.table.Table.{Table}
-use Rattle.rules.specs.declared.fault.RuleFault.{RuleFault}
 use Rattle.rules.specs.declared.fault.RuleFault.TheVariants.{UnknownName, OutOfBounds, TooDeep, TooManyRows, TooFar}
 use Rattle.rules.specs.Rows.{row_at, row_fits, row_earlier, uses, reach}
-use Rattle.rules.specs.Grammar.{expr, Phrase, Derives, tokens_of}
+use Rattle.rules.specs.Grammar.{expr, Phrase, Derives}
 use Rattle.rules.specs.Tables.{size, rows_of, rises, first_deep_lem}
 use Rattle.rules.specs.Checks.{unknown, wrong}
 use Rattle.rules.specs.Scans.{first_from, unknown_here, wrong_here}

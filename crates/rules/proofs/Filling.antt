@@ -1,11 +1,11 @@
 -- How the table stands for more rows and more rises.
-use Rattle.std.proofs.Common.{◌≡◌, ℕ, ◌+◌, ◌-◌, ◌<◌, ◌≤◌, Bool, true, false, cond, ltb, List, [], ◌∷◌, ◌++◌, length, take, set, Some, None, Option, sym, refl, ap, ◌∙◌, subst, append_assoc, arith, length-append}
+use Rattle.std.proofs.Common.{◌≡◌, ℕ, ◌+◌, ◌<◌, ◌≤◌, Bool, true, false, cond, ltb, List, [], ◌∷◌, ◌++◌, length, set, Some, None, Option, sym, refl, ap, ◌∙◌, subst, arith, length-append}
 use Rattle.std.specs.Option.{option_or}
 use Rattle.std.proofs.lemmas.List.{append-nil, take_more_set}
 use Rattle.rules.specs.declared.row.Row.{Row}
 use Rattle.rules.specs.declared.table.Table.{Table}
 use Rattle.rules.specs.Tables.{first_deep_lem}
-use Rattle.rules.specs.Readers.{Holds, Grows, Pushed, Risen}
+use Rattle.rules.specs.Readers.{Pushed, Risen}
 
 abbrev table : List Row → ℕ → Option ℕ → Table
 table rows n deep = record { rows = rows; count = n; deep = deep }

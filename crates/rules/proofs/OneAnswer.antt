@@ -1,14 +1,12 @@
 -- A text has one answer: one split into tokens, one derivation or one place at which there is none, and one chain of checks.
-use Rattle.std.proofs.Common.{◌≡◌, ℕ, ◌+◌, ◌<◌, ◌≤◌, Bool, true, false, ltb, List, [], ◌∷◌, ◌++◌, length, take, drop, Err, sym, refl, ap, ◌∙◌, subst, append_assoc, arith, ltb-false, ltb-true}
+use Rattle.std.proofs.Common.{◌≡◌, ℕ, ◌+◌, ◌<◌, Bool, true, false, ltb, List, ◌++◌, length, take, drop, Err, sym, refl, ap, ◌∙◌, subst, append_assoc, arith, ltb-false, ltb-true}
 use Rattle.std.proofs.lemmas.List.{take-append-drop, take-take}
 use Rattle.tokens.specs.declared.token.Token.{Token}
 use Rattle.tokens.specs.declared.fault.TokenFault.TheVariants.{Malformed}
-use Rattle.tokens.specs.Splits.{Split}
 use Rattle.tokens.proofs.OneWay.{one_split, one_place, never_both}
 use Rattle.rules.specs.declared.fault.RuleFault.TheVariants as fault
-use Rattle.rules.specs.Grammar.{expr, Phrase, Derives, Fails, tokens_of, OneReading}
-use Rattle.rules.specs.Texts.{Answer, place_in, checked, Parsed, no_grammar, derived, Answered, empty, long, no_token, parsed, OneAnswer, OnePlace}
-use Rattle.rules.proofs.Machine.{one_reading}
+use Rattle.rules.specs.Grammar.{expr, Phrase, Fails, tokens_of}
+use Rattle.rules.specs.Texts.{Answer, place_in, checked, Parsed, no_grammar, derived, empty, long, no_token, parsed, OneAnswer, OnePlace}
 
 -- what a longer beginning begins, a shorter one does too
 shorter : (ts us : List Token) (i j : ℕ) (e : Phrase expr) → i < j → tokens_of e ≡ take j ts ++ us → (vs : List Token) × (tokens_of e ≡ take (i + 1) ts ++ vs)

@@ -3,7 +3,7 @@ use Rattle.std.proofs.Common.{◌≡◌, ℕ, suc, ◌+◌, ◌<◌, ◌≤◌, 
 use Rattle.std.proofs.lemmas.List.{drop_all, take-append-drop}
 use Rattle.tokens.specs.declared.token.Token.{Token}
 use Rattle.tokens.specs.declared.token.Token.TheVariants.{Or, Number}
-use Rattle.rules.specs.Readers.{ShortNumbers, Took}
+use Rattle.rules.specs.Readers.{ShortNumbers}
 
 pub here : (ts : List Token) (e : ℕ) (t : Token) → e < length ts → get_or ts e Or ≡ t → drop e ts ≡ t ∷ drop (e + 1) ts
 here ts e t lt is = rw add-one (drop-cons ts e Or lt ∙ ap (λ (v : Token). v ∷ drop (suc e) ts) is)

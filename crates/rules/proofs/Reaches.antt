@@ -1,9 +1,8 @@
 -- The reaches of rows, one row after the other.
-use Rattle.std.proofs.Common.{◌≡◌, ℕ, zero, suc, pred, ◌+◌, ◌-◌, ◌*◌, ◌<◌, ◌≤◌, max, List, [], ◌∷◌, ◌++◌, length, get_or, take, set, sym, refl, ap, ◌∙◌, subst, sub-one, arith, length-append, length-set}
+use Rattle.std.proofs.Common.{◌≡◌, ℕ, zero, suc, ◌+◌, ◌-◌, ◌*◌, ◌<◌, ◌≤◌, List, [], ◌∷◌, ◌++◌, length, get_or, take, set, sym, refl, ap, ◌∙◌, subst, sub-one, arith, length-set}
 use Rattle.std.proofs.lemmas.List.{take_more, take_more_set, take_all, get_or-take}
 use Rattle.rules.specs.declared.row.Row.{Row}
-use Rattle.rules.specs.declared.row.Row.TheVariants.{Test, Not, And, Or, Eventually, Always, Until}
-use Rattle.rules.specs.Rows.{row_reach_lem, reaches_from, root, reach}
+use Rattle.rules.specs.Rows.{row_reach_lem, reaches_from, reach}
 
 pub reaches_more : (rs : List ℕ) (xs : List Row) (r : Row) → reaches_from rs (xs ++ (r ∷ [])) ≡ reaches_from rs xs ++ (row_reach_lem (reaches_from rs xs) r ∷ [])
 reaches_more rs [] r = refl

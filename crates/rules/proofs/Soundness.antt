@@ -1,15 +1,14 @@
 -- The rows of a derivation make a sound table.
-use Rattle.std.proofs.Common.{◌≡◌, ℕ, zero, suc, pred, ◌+◌, ◌-◌, ◌<◌, ◌≤◌, Bool, true, false, cond, ◌&&◌, ◌||◌, T, eqb, ltb, leb, ◌⊎◌, List, [], ◌∷◌, ◌++◌, length, get_or, ℤ, pos, negsuc, neg_ℤ, ◌≤ℤ◌, Some, None, Option, sym, refl, ap, ◌∙◌, subst, inl, inr, append_assoc, arith, length-append, ltb-false, ltb-true, lt-ltb, eq-eqb, ne_eqb, eqb-true, le-leb, leb-true}
+use Rattle.std.proofs.Common.{◌≡◌, ℕ, zero, suc, ◌+◌, ◌-◌, ◌<◌, ◌≤◌, Bool, true, false, cond, ◌&&◌, ◌||◌, eqb, ltb, leb, ◌⊎◌, List, [], ◌∷◌, ◌++◌, length, Some, None, Option, sym, refl, ap, ◌∙◌, subst, inl, inr, arith, ltb-false, ltb-true, lt-ltb, eq-eqb, ne_eqb, eqb-true, le-leb}
 use borrow.Author.Tests.{eqb-false}
-use lib.Signed.{le_z}
 use Rattle.std.proofs.lemmas.Int.{ints}
 use Rattle.std.specs.Option.{option_or}
 use Rattle.rules.specs.declared.row.Row.{Row}
-use Rattle.rules.specs.declared.row.Row.TheVariants.{Test, Not, And, Or, Eventually, Always, Until}
+use Rattle.rules.specs.declared.row.Row.TheVariants.{Test}
 use Rattle.rules.specs.Rows.{row_at, row_fits, row_earlier, one_if, kids, uses}
 use Rattle.rules.specs.Grammar.{Level, window, limit, part, meet, expr, Modality, eventually, always, Phrase, span, plain, minus, test, opposite, modal, brackets, until, one_part, both, one_meet, either, tokens_of}
 use Rattle.rules.specs.Tables.{size, limit_of, line_of, modal_row, until_row, rows_of}
-use Rattle.rules.specs.Checks.{first_in, bad_window, bad_limit, wrong_window, wrong_limit, wrong_test, wrong}
+use Rattle.rules.specs.Checks.{first_in, bad_window, bad_limit, wrong_window, wrong_limit, wrong_test}
 use Rattle.rules.proofs.Growth.{rows_long}
 
 -- P holds of each row with its number, where the first has the number b

@@ -1,14 +1,13 @@
 -- A reader's stop is the end of a viable prefix: the tokens before it begin some expression, and with the next token none.
-use Rattle.std.proofs.Common.{◌≡◌, ℕ, suc, ◌+◌, ◌-◌, ◌<◌, ◌≤◌, Bool, true, false, List, [], ◌∷◌, ◌++◌, length, get_or, take, drop, None, sym, refl, ap, ◌∙◌, subst, append_assoc, arith, length-append, length-drop}
+use Rattle.std.proofs.Common.{◌≡◌, ℕ, ◌+◌, ◌<◌, ◌≤◌, true, false, List, [], ◌∷◌, ◌++◌, length, get_or, take, drop, None, sym, refl, ap, ◌∙◌, subst, append_assoc, arith, length-append, length-drop}
 use Rattle.std.proofs.lemmas.List.{append-nil, take_at, take_more, drop_all}
 use Rattle.tokens.specs.declared.token.Token.{Token}
-use Rattle.tokens.specs.declared.token.Token.TheVariants.{Or, And, Not, Open, Close, Left, Right, Comma, Minus, Always, Eventually, Until, AtLeast, AtMost, Name, Number}
-use Rattle.rules.specs.declared.row.Side.{Side}
+use Rattle.tokens.specs.declared.token.Token.TheVariants.{Or, And, Not, Open, Close, Left, Right, Comma, Minus, Until, AtLeast, Name, Number}
 use Rattle.rules.specs.declared.row.Side.TheVariants as side
-use Rattle.rules.specs.Grammar.{Level, window, limit, part, meet, expr, Modality, modal_token, side_token, Phrase, span, plain, minus, test, opposite, modal, brackets, until, one_part, both, one_meet, either, tokens_of, Derives, Fails}
-use Rattle.rules.specs.Readers.{Isnt, NoSide, NoNumber, NoLimit, NoStart, NoEnd, Over, Read, Stops, no_left, no_from, no_comma, no_to, no_right, no_limit, no_minus, no_start, no_side, in_test, in_not, in_window, in_modal, in_open, no_end, in_until, in_second, no_close, first_part, next_part, first_meet, next_meet, ReadAs, StopsAt}
+use Rattle.rules.specs.Grammar.{Level, window, part, meet, expr, modal_token, side_token, Phrase, span, plain, minus, test, opposite, modal, brackets, until, one_part, both, one_meet, either, tokens_of, Derives, Fails}
+use Rattle.rules.specs.Readers.{Over, Stops, no_left, no_from, no_comma, no_to, no_right, no_limit, no_minus, no_start, no_side, in_test, in_not, in_window, in_modal, in_open, no_end, in_until, in_second, no_close, first_part, next_part, first_meet, next_meet, ReadAs, StopsAt}
 use Rattle.rules.proofs.Places.{here}
-use Rattle.rules.proofs.Machine.{Ctx, modal_window, until_window, test_limit, top, in_brackets, after_until, at_meet, after_or, at_part, after_and, after_not, after_modal, State, want, have, win0, dead, step, run, start, finish_e, closed, Dead, run_append, run_dead, complete, side_next, modal_next, and_next, or_next, until_next, closed_e, one_reading, dead_want, dead_named, dead_win0, dead_win1, dead_win2, dead_win3, dead_win4, dead_lim0, dead_lim1, dead_end, dead_close, dead_top}
+use Rattle.rules.proofs.Machine.{Ctx, modal_window, until_window, test_limit, top, in_brackets, after_until, at_meet, after_or, at_part, after_and, after_not, after_modal, State, win0, dead, step, run, start, closed, Dead, run_append, run_dead, complete, side_next, modal_next, and_next, or_next, until_next, closed_e, one_reading, dead_want, dead_named, dead_win0, dead_win1, dead_win2, dead_win3, dead_win4, dead_lim0, dead_lim1, dead_end, dead_close, dead_top}
 
 abbrev some : Phrase part
 some = test None side.AtLeast (plain 0)

@@ -1,5 +1,5 @@
 -- What a derivation must keep besides the grammar, and the first place at which it does not.
-use Rattle.std.specs.Prelude.{ℕ, ◌+◌, Bool, true, false, cond, ◌||◌, length, Some, None, Option, nat_lt}
+use Rattle.std.specs.Prelude.{ℕ, ◌+◌, Bool, cond, ◌||◌, length, Some, None, Option, nat_lt}
 use Rattle.std.specs.Option.{option_or}
 use Rattle.rules.specs.Grammar.{Level, window, limit, expr, Phrase, span, plain, minus, test, opposite, modal, brackets, until, one_part, both, one_meet, either, tokens_of}
 

@@ -10,7 +10,7 @@ use Rattle.rules.specs.declared.fault.RuleFault.{RuleFault}
 use Rattle.rules.specs.declared.fault.RuleFault.TheVariants.{Empty, Grammar, UnknownName, OutOfBounds, TooDeep, TooManyRows, TooFar}
 use Rattle.rules.specs.declared.fault.RuleFault.TheVariants as fault
 use Rattle.rules.specs.Rows.{reach}
-use Rattle.rules.specs.Grammar.{expr, Phrase, Derives, Fails, tokens_of}
+use Rattle.rules.specs.Grammar.{expr, Phrase, Derives, Fails}
 use Rattle.rules.specs.Tables.{size, rows_of, rises, first_deep_lem}
 use Rattle.rules.specs.Checks.{unknown, wrong}
 use Rattle.rules.specs.Readers.{Holds}

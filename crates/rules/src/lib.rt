@@ -1,4 +1,6 @@
 // Rule texts: from bytes to the rows that the judge works on.
+#![tactic(auto)]
+
 mod checks;
 pub mod fault;
 mod fill;

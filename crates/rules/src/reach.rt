@@ -1,6 +1,6 @@
 // How many ticks ahead a table of rows looks.
 ghost use Rattle.std.specs.Prelude.{◌≡◌, ℕ, ◌+◌, ◌*◌, ◌<◌, ◌≤◌, length, slice_index};
-ghost use Rattle.rules.specs.Rows.{row_reach_lem as reach-of-row, reach};
+ghost use Rattle.rules.specs.Rows.{row_reach_lem as reach_of_row, reach};
 
 use crate::row::Row;
 
@@ -13,7 +13,7 @@ fn reach_at(done: &[u64], row: usize) -> u64
 // The reach of a row, by those of the rows before it.
 fn row_reach(done: &[u64], row: Row) -> u64
     requires { (c : ℕ) → slice_index done.now c ≤ 274877906944 }
-    ensures value { result ≡ reach-of-row done.now row }
+    ensures value { result ≡ reach_of_row done.now row }
     ensures bound { (m : ℕ) → ((c : ℕ) → slice_index done.now c ≤ m) → result ≤ m + 4294967296 }
 {
     match row {

@@ -1,7 +1,7 @@
 // The readers of the grammar: they call each other, with fewer tokens left each time.
 ghost use Rattle.std.specs.Prelude.{◌≡◌, ℕ, ◌+◌, ◌<◌, ◌≤◌, length, pos, neg_ℤ, if◌then◌else◌, MatchResult, slice_index_or};
 ghost use Rattle.tokens.specs.declared.token.Token.TheVariants.{Number, Name, Or};
-ghost use Rattle.rules.specs.Grammar.{part as a-part, meet as a-meet, expr as an-expr, window as a-window, limit as a-limit, span as a-span, side_token};
+ghost use Rattle.rules.specs.Grammar.{part as a_part, meet as a_meet, expr as an_expr, window as a_window, limit as a_limit, span as a_span, side_token};
 ghost use Rattle.rules.specs.Tables.{line_of};
 ghost use Rattle.rules.specs.Readers.{ReadAs, ReadLimit, StopsAt, Took, Missed, Isnt, NoSide, NoNumber, Built, ShortNumbers};
 
@@ -78,7 +78,7 @@ fn comparison(tokens: &[Token], at: usize) -> Result<(Side, usize), Stop>
 
 fn window(tokens: &[Token], at: usize) -> Result<Span, Stop>
     requires { at ≤ length tokens.now }
-    ensures { MatchResult result (λ w. ReadAs (a-span w.from w.to) tokens.now at w.next) (λ f. StopsAt a-window tokens.now at f.at) }
+    ensures { MatchResult result (λ w. ReadAs (a_span w.from w.to) tokens.now at w.next) (λ f. StopsAt a_window tokens.now at f.at) }
 {
     let a = exact(tokens, at, Token::Left)?;
     let (from, b) = number(tokens, a)?;
@@ -100,7 +100,7 @@ fn signed(n: u32, negative: bool) -> i32
 fn limit(tokens: &[Token], at: usize) -> Result<Bound, Stop>
     requires within { at ≤ length tokens.now }
     requires short { ShortNumbers tokens.now }
-    ensures { MatchResult result (λ v. ReadLimit tokens.now at v.next v.value) (λ f. StopsAt a-limit tokens.now at f.at) }
+    ensures { MatchResult result (λ v. ReadLimit tokens.now at v.next v.value) (λ f. StopsAt a_limit tokens.now at f.at) }
 {
     if at >= tokens.len() {
         return Err(Stop { at });
@@ -136,7 +136,7 @@ fn test(tokens: &[Token], at: usize, line: Option<u8>, table: &mut Table) -> Res
     requires name { slice_index_or tokens.now at Or ≡ Name line }
     requires short { ShortNumbers tokens.now }
     requires few { table.old.count ≤ at }
-    ensures { MatchResult result (λ d. (depth : ℕ) → Built a-part tokens.now at depth table.old table.new d.next d.root) (λ f. StopsAt a-part tokens.now at f.at) }
+    ensures { MatchResult result (λ d. (depth : ℕ) → Built a_part tokens.now at depth table.old table.new d.next d.root) (λ f. StopsAt a_part tokens.now at f.at) }
 {
     let (side, from) = comparison(tokens, at + 1)?;
     let limit = limit(tokens, from)?;
@@ -164,7 +164,7 @@ pub(crate) fn expression(
     requires short { ShortNumbers tokens.now }
     requires few { table.old.count ≤ at }
     requires shallow { depth ≤ at }
-    ensures { MatchResult result (λ d. Built an-expr tokens.now at depth table.old table.new d.next d.root) (λ f. StopsAt an-expr tokens.now at f.at) }
+    ensures { MatchResult result (λ d. Built an_expr tokens.now at depth table.old table.new d.next d.root) (λ f. StopsAt an_expr tokens.now at f.at) }
 {
     let mut left = meet(tokens, at, depth, table)?;
     while left.next < tokens.len() {
@@ -191,7 +191,7 @@ fn meet(tokens: &[Token], at: usize, depth: usize, table: &mut Table) -> Result<
     requires short { ShortNumbers tokens.now }
     requires few { table.old.count ≤ at }
     requires shallow { depth ≤ at }
-    ensures { MatchResult result (λ d. Built a-meet tokens.now at depth table.old table.new d.next d.root) (λ f. StopsAt a-meet tokens.now at f.at) }
+    ensures { MatchResult result (λ d. Built a_meet tokens.now at depth table.old table.new d.next d.root) (λ f. StopsAt a_meet tokens.now at f.at) }
 {
     let mut left = part(tokens, at, depth, table)?;
     while left.next < tokens.len() {
@@ -218,7 +218,7 @@ fn part(tokens: &[Token], at: usize, depth: usize, table: &mut Table) -> Result<
     requires short { ShortNumbers tokens.now }
     requires few { table.old.count ≤ at }
     requires shallow { depth ≤ at }
-    ensures { MatchResult result (λ d. Built a-part tokens.now at depth table.old table.new d.next d.root) (λ f. StopsAt a-part tokens.now at f.at) }
+    ensures { MatchResult result (λ d. Built a_part tokens.now at depth table.old table.new d.next d.root) (λ f. StopsAt a_part tokens.now at f.at) }
 {
     if at >= tokens.len() {
         return Err(Stop { at });

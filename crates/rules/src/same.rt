@@ -1,8 +1,11 @@
 // When two rules are the same.
 ghost use Rattle.std.specs.Prelude.{◌≡◌, Decides};
 ghost use Rattle.rules.specs.Texts.{table_of};
-ghost use Rattle.std.specs.Cmp.Rules.{comparing};
-ghost use Rattle.std.proofs.Common.{rules, arith};
+ghost use Rattle.rules.specs.contracts.row.RowPartialEq.TheImpl as row;
+ghost use Rattle.rules.specs.contracts.row.RowPartialEq.TheImpl.Laws as laws;
+ghost use Rattle.std.specs.Cmp.{on_per};
+ghost use Rattle.std.specs.Cmp.Lexicographic.{pointwise, lists_per};
+ghost use Rattle.std.specs.Ordering.{on};
 
 use crate::row::Row;
 use crate::rule::Rule;
@@ -29,11 +32,14 @@ fn same_rows(left: &[Row], right: &[Row]) -> bool
 
 // Rules are the same if their rows are; nothing else of the text stays in one.
 impl PartialEq for Rule {
-    ghost equals = { λ a b r. Decides r (table_of a ≡ table_of b) };
+    ghost eq = { on table_of (pointwise row.ghosts.eq) };
 
-    ghost laws = { first_of (Prim.search (comparing, rules), Prim.grind (arith, Self.row.coded.inj)) };
+    ghost laws = { on_per table_of (lists_per laws.laws-law) };
 
-    fn eq(&self, other: &Rule) -> bool {
+    fn eq(&self, other: &Rule) -> bool
+        ensures answer { result ≡ on table_of (pointwise row.ghosts.eq) self.now other.now }
+        ensures same { Decides result (table_of self.now ≡ table_of other.now) }
+    {
         same_rows(self.rows(), other.rows())
     }
 }

@@ -4,4 +4,4 @@ use Rattle.rule_tests.proofs.texts.repeat_onto.Goals as goal
 
 pub loop-k-preserved : goal.loop-k-preserved
 loop-k-preserved c =
-    repeat_more (string_bytes c.args.text.now) (string_bytes c.loop-k.text) (string_bytes c.push-str.new.self) c.args.piece.now c.loop-k.-k c.loop-k.invariant c.in-ok-push-str.ensures.bytes
+    repeat_more (string_bytes c.args.text.now) (string_bytes c.loop-k.text) (string_bytes c.push_str.new.self) c.args.piece.now c.loop-k._k c.loop-k.invariant c.in_ok-push_str.ensures.bytes

@@ -1,17 +1,17 @@
-use Rattle.std.proofs.Common.{◌≡◌, ℕ, ◌+◌, ◌-◌, ◌*◌, ◌<◌, ◌≤◌, List, length, get_or, take, pos, sym, ap, ◌∙◌, subst, arith}
+use Rattle.std.proofs.Common.{◌≡◌, ℕ, ◌+◌, ◌-◌, ◌*◌, ◌≤◌, get_or, take, pos, sym, subst, arith}
 use lib.ListN.{length-replicate}
 use Rattle.rules.specs.declared.row.Row.{Row}
 use Rattle.rules.specs.declared.row.Row.TheVariants.{Test}
 use Rattle.rules.specs.declared.row.Side.TheVariants.{AtLeast}
 use Rattle.rules.specs.Rows.{row_reach_lem}
-use Rattle.rules.proofs.Reaches.{Sofar, Within, first, again, done}
+use Rattle.rules.proofs.Reaches.{first, again, done}
 use Rattle.rules.proofs.reach.reach_of.Goals as goal
 
 pub loop-k-init : goal.loop-k-init
 loop-k-init c = first _ _ (length-replicate {A = ℕ} 64 0)
 
-pub row-reach-requires : goal.row-reach-requires
-row-reach-requires c =
+pub row_reach-requires : goal.row_reach-requires
+row_reach-requires c =
     let k = c.loop-k.k in
     let same : k - 0 ≡ k = omega arith in
     λ d. subst (λ (n : ℕ). get_or (take n c.loop-k.found) d 0 ≤ 274877906944) (sym same) (omega (arith, c.loop-k.invariant.bound d))

@@ -1,4 +1,4 @@
-use Rattle.std.proofs.Common.{◌≡◌, ℕ, Err, ap}
+use Rattle.std.proofs.Common.{ℕ, Err, ap}
 use Rattle.rules.specs.declared.fault.RuleFault.TheVariants.{Grammar}
 use Rattle.rules.specs.Texts.{no_grammar, derived}
 use Rattle.rules.proofs.read.of_tokens.Goals as goal

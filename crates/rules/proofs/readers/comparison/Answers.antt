@@ -12,5 +12,5 @@ returns-in-AtLeast c = record { next = refl; within = omega arith; text = here _
 pub returns-in-AtMost : goal.returns-in-AtMost
 returns-in-AtMost c = record { next = refl; within = omega arith; text = here _ _ _ c.if-at-tokens.false c.in-AtMost.is }
 
-pub returns-in-default : goal.returns-in-default
-returns-in-default c = record { same = refl; isnt = at_token (λ r. NoSide r) _ _ c.if-at-tokens.false (c.in-default.not-AtLeast, c.in-default.not-AtMost) }
+pub returns-in_default : goal.returns-in_default
+returns-in_default c = record { same = refl; isnt = at_token (λ r. NoSide r) _ _ c.if-at-tokens.false (c.in_default.not-AtLeast, c.in_default.not-AtMost) }

@@ -1,4 +1,4 @@
-use Rattle.std.proofs.Common.{◌≡◌, length, refl, ◌∙◌, arith, length-set}
+use Rattle.std.proofs.Common.{◌∙◌, arith, length-set}
 use Rattle.rule_lines.proofs.Keeping.{listed_more, listed_all}
 use Rattle.rule_lines.proofs.names.Names.list.Goals as goal
 
