@@ -117,9 +117,9 @@ module _ {K : Kind} (L : Lawful K) where
         over_related R (ranges K).join (ranges K).join keeps.join _ _ (t + a) (b - a)
         (λ u from to. until_kept a b l r t u from (omega arith) (kn l (inl refl)) (kn r (inr refl)) each)
 
-    pub blame : (asked-at : ℕ) → ((k l u : ℕ) → Marked K rows x asked-at k u → Tests (row_at rows k) l → Q (x l u) (y l u)) → (k : ℕ) → k < length rows → (t : ℕ) →
-        Wanted K rows (value (ranges K) rows x) asked-at k t → R (value (ranges K) rows x k t) (value (ranges K) rows y k t)
-    blame asked-at marks = by_rows sound (λ k. (t : ℕ) → Wanted K rows v asked-at k t → R (v k t) (w k t)) λ k h each t wanted.
+    pub blame : (asked_at : ℕ) → ((k l u : ℕ) → Marked K rows x asked_at k u → Tests (row_at rows k) l → Q (x l u) (y l u)) → (k : ℕ) → k < length rows → (t : ℕ) →
+        Wanted K rows (value (ranges K) rows x) asked_at k t → R (value (ranges K) rows x k t) (value (ranges K) rows y k t)
+    blame asked_at marks = by_rows sound (λ k. (t : ℕ) → Wanted K rows v asked_at k t → R (v k t) (w k t)) λ k h each t wanted.
         elim (K.same (v k t).low (v k t).high) [
           | yes s ↦ calm (v k t) (w k t) s (squeezed (v k t) (w k t) ((known k h).inside t) ((known k h).fit' t) s)
           | no ne ↦ subst₂ R (sym (value_is (ranges K) x sound k h t)) (sym (value_is (ranges K) y sound k h t))

@@ -31,18 +31,18 @@ module _ (K : Kind) (v : ℕ → ℕ → Span K.Value) where
   wants_near rs (Until a b l r) t c u (inl h) = let o = h.1.to in rw h.0 (omega arith)
   wants_near rs (Until a b l r) t c u (inr h) = let z = h.2 in let o = z.1 in let p = z.2.to in rw h.0 (omega arith)
 
-  module _ {rows : List Row} (sound : Sound rows) (asked-at : ℕ) where
-    pub wanted_after : (k t : ℕ) → Wanted K rows v asked-at k t → asked-at ≤ t
+  module _ {rows : List Row} (sound : Sound rows) (asked_at : ℕ) where
+    pub wanted_after : (k t : ℕ) → Wanted K rows v asked_at k t → asked_at ≤ t
     wanted_after k t asked = omega arith
     wanted_after k t (passed j s _ _ h n w) = let a = wanted_after j s h in let b = wants_after (row_at rows j) s k t w in omega arith
 
-    near : (k t : ℕ) → Wanted K rows v asked-at k t → t + reach_of rows k ≤ asked-at + reach rows
+    near : (k t : ℕ) → Wanted K rows v asked_at k t → t + reach_of rows k ≤ asked_at + reach rows
     near k t asked = omega arith
     near k t (passed j s _ _ h n w) =
         let a = near j s h in
         let b = wants_near (reaches_from [] rows) (row_at rows j) s k t w in
-        let e = reach_is sound j (wanted_below K sound v asked-at j s h) in
+        let e = reach_is sound j (wanted_below K sound v asked_at j s h) in
         omega arith
 
-    pub wanted_near : (k t : ℕ) → Wanted K rows v asked-at k t → t ≤ asked-at + reach rows
+    pub wanted_near : (k t : ℕ) → Wanted K rows v asked_at k t → t ≤ asked_at + reach rows
     wanted_near k t h = omega (arith, near k t h)

@@ -40,28 +40,28 @@ module _ {K : Kind} (L : Lawful K) (v : ℕ → ℕ → Span K.Value) where
       (as? (λ h. (h.0, h.2.0, h.2.1, h.2.2)) (λ h. (h.0, (let o = h.2.to in omega arith), (h.1, h.2, h.3)))
       (some? (λ w. three? (dec_le u w) (open? (v l) a b t w) (not? (lowest? L (v r w)))) (suc (t + b)))))
 
-  module _ {rows : List Row} (sound : Sound rows) (asked-at : ℕ) where
-    from_root? : (n c : ℕ) → length rows ≤ c + n → c < length rows → (u : ℕ) → Dec (Wanted K rows v asked-at c u)
+  module _ {rows : List Row} (sound : Sound rows) (asked_at : ℕ) where
+    from_root? : (n c : ℕ) → length rows ≤ c + n → c < length rows → (u : ℕ) → Dec (Wanted K rows v asked_at c u)
     from_root? zero c far below u = absurd (omega arith)
     from_root? (suc n) c far below u = elim (dec_lt (suc c) (length rows)) [
       | yes inner ↦
           let parent = sound.used c inner in
           let k = parent.0 in
           let after : c < k = sound.earlier k c parent.1 parent.2 in
-          let iff = child_wanted K sound v asked-at k c u parent.1 parent.2 in
+          let iff = child_wanted K sound v asked_at k c u parent.1 parent.2 in
           as? (λ h. iff.1 (h.0, h.2.0, h.2.1, h.2.2))
           (λ w. let h = iff.0 w in (h.0, (let o = wants_after K v (row_at rows k) h.0 c u h.3 in omega arith), (h.1, h.2, h.3)))
           (some? (λ t. three? (from_root? n k (omega arith) parent.1 t) (not? (settled? (v k t))) (wants? (row_at rows k) t c u)) (suc u))
       | no last ↦
           let is : c ≡ pred (length rows) = omega arith in
-          let iff = root_wanted K sound v asked-at u in
-          subst (λ j. Dec (Wanted K rows v asked-at j u)) (sym is) (as? iff.1 iff.0 (ℕ_discrete u asked-at))
+          let iff = root_wanted K sound v asked_at u in
+          subst (λ j. Dec (Wanted K rows v asked_at j u)) (sym is) (as? iff.1 iff.0 (ℕ_discrete u asked_at))
     ]
 
-    pub wanted? : (k u : ℕ) → Dec (Wanted K rows v asked-at k u)
+    pub wanted? : (k u : ℕ) → Dec (Wanted K rows v asked_at k u)
     wanted? k u = elim (dec_lt k (length rows)) [
       | yes below ↦ from_root? (length rows) k (omega arith) below u
-      | no n ↦ no (λ w. n (wanted_below K sound v asked-at k u w))
+      | no n ↦ no (λ w. n (wanted_below K sound v asked_at k u w))
     ]
 
 tests? : (r : Row) → Dec ((line : ℕ) × Tests r line)
@@ -73,18 +73,18 @@ tests? (Eventually a b d) = no (λ h. h.1)
 tests? (Always a b d) = no (λ h. h.1)
 tests? (Until a b l r) = no (λ h. h.1)
 
-pub marked? : {K : Kind} → Lawful K → {rows : List Row} → Sound rows → (x : Readings) (asked-at k u : ℕ) → Dec (Marked K rows x asked-at k u)
-marked? {K} L {rows} sound x asked-at k u =
+pub marked? : {K : Kind} → Lawful K → {rows : List Row} → Sound rows → (x : Readings) (asked_at k u : ℕ) → Dec (Marked K rows x asked_at k u)
+marked? {K} L {rows} sound x asked_at k u =
     as? (λ h. record { line = h.0.0; tests = h.0.1; wanted = h.1; unsettled = h.2 }) (λ m. ((m.line, m.tests), m.wanted, m.unsettled))
-    (three? (tests? (row_at rows k)) (wanted? L v sound asked-at k u) (not? (settled? L v (v k u))))
+    (three? (tests? (row_at rows k)) (wanted? L v sound asked_at k u) (not? (settled? L v (v k u))))
   where
     v : ℕ → ℕ → Span K.Value
     v = value (ranges K) rows x
 
-pub has_marks : {K : Kind} → Lawful K → {rows : List Row} → Sound rows → (x : Readings) (asked-at : ℕ) → (ms : List Mark) × Marks K rows x asked-at ms
-has_marks {K} L {rows} sound x asked-at =
-    has_list (Marked K rows x asked-at) (marked? L sound x asked-at) (length rows) (suc (asked-at + reach rows))
-    (λ k u m. (wanted_below K sound v asked-at k u m.wanted, (let n = wanted_near K v sound asked-at k u m.wanted in omega arith)))
+pub has_marks : {K : Kind} → Lawful K → {rows : List Row} → Sound rows → (x : Readings) (asked_at : ℕ) → (ms : List Mark) × Marks K rows x asked_at ms
+has_marks {K} L {rows} sound x asked_at =
+    has_list (Marked K rows x asked_at) (marked? L sound x asked_at) (length rows) (suc (asked_at + reach rows))
+    (λ k u m. (wanted_below K sound v asked_at k u m.wanted, (let n = wanted_near K v sound asked_at k u m.wanted in omega arith)))
   where
     v : ℕ → ℕ → Span K.Value
     v = value (ranges K) rows x

@@ -1,16 +1,16 @@
 -- Readings are the same where their ends are; what an entry sets.
 use Rattle.std.proofs.Common.{◌≡◌, ℕ, ◌<◌, ◌≤◌, Bool, true, false, ◌⊎◌, ℤ, ◌≤ℤ◌, inl, inr, arith}
 use mathlib.Core.Path.{PathP}
-use mathlib.Core.HLevel.{is_prop→PathP, ×_prop}
+use mathlib.Core.HLevel.{is_prop→PathP}
 use Rattle.std.proofs.lemmas.Bool.Decides.{nat_tests}
-use denote.Struct.Props.{≤ℤ_prop}
+use denote.Struct.Props.{props}
 use Rattle.grades.specs.Kinds.{Tells}
 use Rattle.rules.specs.Rows.{NumberFits}
 use Rattle.meaning.specs.declared.reading.Reading.{Reading}
 use Rattle.meaning.specs.Readings.{Readings, entered}
 
 fits_path : {m n : ℤ} (e : m ≡ n) (h : NumberFits m) (k : NumberFits n) → PathP (λ i. NumberFits (e i)) h k
-fits_path e h k = is_prop→PathP (λ i. NumberFits (e i)) (λ i. ×_prop ≤ℤ_prop ≤ℤ_prop) h k
+fits_path e h k = is_prop→PathP (λ i. NumberFits (e i)) (λ i. hlevel props) h k
 
 pub reading_same : (p q : Reading) → p.lower ≡ q.lower → p.upper ≡ q.upper → p ≡ q
 reading_same p q e f = λ i. record {
@@ -18,7 +18,7 @@ reading_same p q e f = λ i. record {
   upper = f i;
   bottom = fits_path e p.bottom q.bottom i;
   top = fits_path f p.top q.top i;
-  ordered = is_prop→PathP (λ j. e j ≤ℤ f j) (λ j. ≤ℤ_prop) p.ordered q.ordered i;
+  ordered = is_prop→PathP (λ j. e j ≤ℤ f j) (λ j. hlevel props) p.ordered q.ordered i;
 }
 
 pub tells_as : {P Q : Type 0} (b : Bool) → (P → Q) → (Q → P) → Tells b P → Tells b Q

@@ -19,30 +19,30 @@ module _ (K : Kind) where
   wants_child v (Until a b l r) t c u (inl h) = inr h.0
   wants_child v (Until a b l r) t c u (inr h) = inl h.0
 
-  module _ {rows : List Row} (sound : Sound rows) (v : ℕ → ℕ → Span K.Value) (asked-at : ℕ) where
+  module _ {rows : List Row} (sound : Sound rows) (v : ℕ → ℕ → Span K.Value) (asked_at : ℕ) where
     -- some tick of the parent k wants the child c at u
     abbrev pub From : ℕ → ℕ → ℕ → Type 0
-    From k c u = (t : ℕ) × Wanted K rows v asked-at k t × ¬ (Settled K (v k t)) × Wants K v (row_at rows k) t c u
+    From k c u = (t : ℕ) × Wanted K rows v asked_at k t × ¬ (Settled K (v k t)) × Wants K v (row_at rows k) t c u
 
     -- how a row came to be wanted
     abbrev Came : ℕ → ℕ → Type 0
-    Came c u = ((c ≡ root rows) × (u ≡ asked-at)) ⊎ ((k : ℕ) × (k < length rows) × From k c u)
+    Came c u = ((c ≡ root rows) × (u ≡ asked_at)) ⊎ ((k : ℕ) × (k < length rows) × From k c u)
 
-    pub wanted_below : (c u : ℕ) → Wanted K rows v asked-at c u → c < length rows
+    pub wanted_below : (c u : ℕ) → Wanted K rows v asked_at c u → c < length rows
     wanted_below c u asked = root_below sound
     wanted_below c u (passed k t _ _ h n w) =
         let b = wanted_below k t h in
         let e = sound.earlier k c b (wants_child v (row_at rows k) t c u w) in
         omega arith
 
-    came : (c u : ℕ) → Wanted K rows v asked-at c u → Came c u
+    came : (c u : ℕ) → Wanted K rows v asked_at c u → Came c u
     came c u asked = inl (refl, refl)
     came c u (passed k t _ _ h n w) = inr (k, wanted_below k t h, (t, h, n, w))
 
-    pub root_wanted : (u : ℕ) → Wanted K rows v asked-at (root rows) u ↔ (u ≡ asked-at)
-    root_wanted u = (λ h. from (came (root rows) u h), λ e. subst (λ j. Wanted K rows v asked-at (root rows) j) (sym e) asked)
+    pub root_wanted : (u : ℕ) → Wanted K rows v asked_at (root rows) u ↔ (u ≡ asked_at)
+    root_wanted u = (λ h. from (came (root rows) u h), λ e. subst (λ j. Wanted K rows v asked_at (root rows) j) (sym e) asked)
       where
-        from : Came (root rows) u → u ≡ asked-at
+        from : Came (root rows) u → u ≡ asked_at
         from (inl h) = h.1
         from (inr h) =
             let w = h.2 in
@@ -50,7 +50,7 @@ module _ (K : Kind) where
             let b = h.1 in
             absurd (omega arith)
 
-    pub child_wanted : (k c u : ℕ) → k < length rows → Child (row_at rows k) c → Wanted K rows v asked-at c u ↔ From k c u
+    pub child_wanted : (k c u : ℕ) → k < length rows → Child (row_at rows k) c → Wanted K rows v asked_at c u ↔ From k c u
     child_wanted k c u below child = (λ h. from (came c u h), λ h. passed k h.0 c u h.1 h.2 h.3)
       where
         from : Came c u → From k c u

@@ -51,12 +51,12 @@ pub record Lists (P : ℕ → ℕ → Type 0) (ms : List Mark) : Type 0 where
   pub complete : (k u : ℕ) → P k u → Listed ms k u
   pub ordered : Ordered ms
 
-module _ (K : Kind) (rows : List Row) (x : Readings) (asked-at : ℕ) where
+module _ (K : Kind) (rows : List Row) (x : Readings) (asked_at : ℕ) where
   -- a test row that is wanted at the tick and not settled there
   pub record Marked (k u : ℕ) : Type 0 where
     pub line : ℕ
     pub tests : Tests (row_at rows k) line
-    pub wanted : Wanted K rows (value (ranges K) rows x) asked-at k u
+    pub wanted : Wanted K rows (value (ranges K) rows x) asked_at k u
     pub unsettled : ¬ (Settled K (value (ranges K) rows x k u))
 
   abbrev pub Marks : List Mark → Type 0

@@ -29,7 +29,7 @@ module _ (K : Kind) where
       ((c ≡ r) × Open (v l) a b t u) ⊎
       ((c ≡ l) × (t ≤ u) × ((w : ℕ) × (u ≤ w) × Open (v l) a b t w × ¬ (Lowest (v r w))))
 
-  -- row and tick, when the last row is asked for at the tick `asked-at`
-  pub data Wanted (rows : List Row) (v : ℕ → ℕ → Span K.Value) (asked-at : ℕ) : ℕ → ℕ → Type 0 where
-    asked : Wanted rows v asked-at (root rows) asked-at
-    passed : (k t c u : ℕ) → Wanted rows v asked-at k t → ¬ (Settled K (v k t)) → Wants v (row_at rows k) t c u → Wanted rows v asked-at c u
+  -- row and tick, when the last row is asked for at the tick `asked_at`
+  pub data Wanted (rows : List Row) (v : ℕ → ℕ → Span K.Value) (asked_at : ℕ) : ℕ → ℕ → Type 0 where
+    asked : Wanted rows v asked_at (root rows) asked_at
+    passed : (k t c u : ℕ) → Wanted rows v asked_at k t → ¬ (Settled K (v k t)) → Wants v (row_at rows k) t c u → Wanted rows v asked_at c u

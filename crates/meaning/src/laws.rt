@@ -29,17 +29,17 @@ pub fn entries_set_stretches() -> u8
 // A row's value is what the row means, in grades and in ranges, and no other value is.
 pub fn rows_mean<G: Grade>() -> u8
     ensures grades { (rows : List Row) (y : Readings) (k t : ℕ) → Sound rows → k < length rows →
-        Means kind (grade_of kind) y (value (grades kind) rows y) (row_at rows k) t (value (grades kind) rows y k t) }
-    ensures ranges { (rows : List Row) (x : Readings) → Sound rows → Meant kind rows x (value (ranges kind) rows x) }
-    ensures once { (rows : List Row) (x : Readings) (v w : ℕ → ℕ → Span kind.Value) → Sound rows →
-        Meant kind rows x v → Meant kind rows x w → (k t : ℕ) → k < length rows → v k t ≡ w k t }
+        Means G.kind (grade_of G.kind) y (value (grades G.kind) rows y) (row_at rows k) t (value (grades G.kind) rows y k t) }
+    ensures ranges { (rows : List Row) (x : Readings) → Sound rows → Meant G.kind rows x (value (ranges G.kind) rows x) }
+    ensures once { (rows : List Row) (x : Readings) (v w : ℕ → ℕ → Span G.kind.Value) → Sound rows →
+        Meant G.kind rows x v → Meant G.kind rows x w → (k t : ℕ) → k < length rows → v k t ≡ w k t }
 {
     0
 }
 
 // A verdict's lower end is at most its upper end.
 pub fn ranges_are_proper<G: Grade>() -> u8
-    ensures { (rows : List Row) (x : Readings) (t : ℕ) → Sound rows → Proper kind (verdict kind rows x t) }
+    ensures { (rows : List Row) (x : Readings) (t : ℕ) → Sound rows → Proper G.kind (verdict G.kind rows x t) }
 {
     0
 }
@@ -47,7 +47,7 @@ pub fn ranges_are_proper<G: Grade>() -> u8
 // As readings narrow, so do verdicts.
 pub fn verdicts_nest<G: Grade>() -> u8
     ensures { (rows : List Row) (x y : Readings) (t : ℕ) → Sound rows → AllWithin y x →
-        Inside kind (verdict kind rows y t) (verdict kind rows x t) }
+        Inside G.kind (verdict G.kind rows y t) (verdict G.kind rows x t) }
 {
     0
 }
@@ -55,7 +55,7 @@ pub fn verdicts_nest<G: Grade>() -> u8
 // A verdict holds the grade of each exact job inside the readings.
 pub fn verdicts_hold_exact_grades<G: Grade>() -> u8
     ensures { (rows : List Row) (x y : Readings) (t : ℕ) → Sound rows → AllExact y → AllWithin y x →
-        Holds kind (verdict kind rows x t) (exact_grade kind rows y t) }
+        Holds G.kind (verdict G.kind rows x t) (exact_grade G.kind rows y t) }
 {
     0
 }
@@ -63,23 +63,23 @@ pub fn verdicts_hold_exact_grades<G: Grade>() -> u8
 // The verdict on an exact job is its grade, at both ends.
 pub fn exact_readings_settle<G: Grade>() -> u8
     ensures { (rows : List Row) (x : Readings) (t : ℕ) → Sound rows → AllExact x →
-        verdict kind rows x t ≡ span (exact_grade kind rows x t) (exact_grade kind rows x t) }
+        verdict G.kind rows x t ≡ span (exact_grade G.kind rows x t) (exact_grade G.kind rows x t) }
 {
     0
 }
 
 // While the marked readings stand, so does the verdict, however the others narrow.
 pub fn marks_suffice<G: Grade>() -> u8
-    ensures { (rows : List Row) (x y : Readings) (t : ℕ) (ms : List Mark) → Sound rows → Marks kind rows x t ms → AllWithin y x →
-        AtMarks rows ms (λ line u. y line u ≡ x line u) → verdict kind rows y t ≡ verdict kind rows x t }
+    ensures { (rows : List Row) (x y : Readings) (t : ℕ) (ms : List Mark) → Sound rows → Marks G.kind rows x t ms → AllWithin y x →
+        AtMarks rows ms (λ line u. y line u ≡ x line u) → verdict G.kind rows y t ≡ verdict G.kind rows x t }
 {
     0
 }
 
 // Once the marked readings have equal ends, the verdict is settled.
 pub fn marks_settle<G: Grade>() -> u8
-    ensures { (rows : List Row) (x y : Readings) (t : ℕ) (ms : List Mark) → Sound rows → Marks kind rows x t ms → AllWithin y x →
-        AtMarks rows ms (λ line u. Exact (y line u)) → Settled kind (verdict kind rows y t) }
+    ensures { (rows : List Row) (x y : Readings) (t : ℕ) (ms : List Mark) → Sound rows → Marks G.kind rows x t ms → AllWithin y x →
+        AtMarks rows ms (λ line u. Exact (y line u)) → Settled G.kind (verdict G.kind rows y t) }
 {
     0
 }
@@ -89,39 +89,39 @@ pub fn marks_settle<G: Grade>() -> u8
 // Of an until's children, right is wanted from the window's start to the tick before left's first lowest.
 // Left is wanted from the until's own tick to the last of those ticks at which right is not lowest, and nowhere if there is none.
 pub fn wanting_by_parent<G: Grade>() -> u8
-    ensures root { (rows : List Row) (v : ℕ → ℕ → Span kind.Value) (asked u : ℕ) → Sound rows →
-        Wanted kind rows v asked (root rows) u ↔ (u ≡ asked) }
-    ensures child { (rows : List Row) (v : ℕ → ℕ → Span kind.Value) (asked k c u : ℕ) → Sound rows → k < length rows → Child (row_at rows k) c →
-        Wanted kind rows v asked c u ↔ ((t : ℕ) × Wanted kind rows v asked k t × ¬ (Settled kind (v k t)) × Wants kind v (row_at rows k) t c u) }
-    ensures turned { (v : ℕ → ℕ → Span kind.Value) (c t u : ℕ) → Wants kind v (Not c) t c u ↔ (u ≡ t) }
-    ensures pair { (v : ℕ → ℕ → Span kind.Value) (l r c t u : ℕ) → (c ≡ l) ⊎ (c ≡ r) →
-        (Wants kind v (And l r) t c u ↔ (u ≡ t)) × (Wants kind v (Or l r) t c u ↔ (u ≡ t)) }
-    ensures window { (v : ℕ → ℕ → Span kind.Value) (a b c t u : ℕ) →
-        (Wants kind v (Eventually a b c) t c u ↔ ((t + a ≤ u) × (u ≤ t + b))) × (Wants kind v (Always a b c) t c u ↔ ((t + a ≤ u) × (u ≤ t + b))) }
-    ensures first { (left : ℕ → Span kind.Value) (b t : ℕ) → (s : ℕ) × FirstLowest kind left b t s }
-    ensures right { (v : ℕ → ℕ → Span kind.Value) (a b l r t s u : ℕ) → ¬ (l ≡ r) → FirstLowest kind (v l) b t s →
-        Wants kind v (Until a b l r) t r u ↔ ((t + a ≤ u) × (u < s)) }
-    ensures last { (right : ℕ → Span kind.Value) (a t s : ℕ) → ((w : ℕ) × LastNeeded kind right a t s w) ⊎ NoneNeeded kind right a t s }
-    ensures left { (v : ℕ → ℕ → Span kind.Value) (a b l r t s w u : ℕ) → ¬ (l ≡ r) → FirstLowest kind (v l) b t s → LastNeeded kind (v r) a t s w →
-        Wants kind v (Until a b l r) t l u ↔ ((t ≤ u) × (u ≤ w)) }
-    ensures nowhere { (v : ℕ → ℕ → Span kind.Value) (a b l r t s u : ℕ) → ¬ (l ≡ r) → FirstLowest kind (v l) b t s → NoneNeeded kind (v r) a t s →
-        ¬ (Wants kind v (Until a b l r) t l u) }
+    ensures root { (rows : List Row) (v : ℕ → ℕ → Span G.kind.Value) (asked u : ℕ) → Sound rows →
+        Wanted G.kind rows v asked (root rows) u ↔ (u ≡ asked) }
+    ensures child { (rows : List Row) (v : ℕ → ℕ → Span G.kind.Value) (asked k c u : ℕ) → Sound rows → k < length rows → Child (row_at rows k) c →
+        Wanted G.kind rows v asked c u ↔ ((t : ℕ) × Wanted G.kind rows v asked k t × ¬ (Settled G.kind (v k t)) × Wants G.kind v (row_at rows k) t c u) }
+    ensures turned { (v : ℕ → ℕ → Span G.kind.Value) (c t u : ℕ) → Wants G.kind v (Not c) t c u ↔ (u ≡ t) }
+    ensures pair { (v : ℕ → ℕ → Span G.kind.Value) (l r c t u : ℕ) → (c ≡ l) ⊎ (c ≡ r) →
+        (Wants G.kind v (And l r) t c u ↔ (u ≡ t)) × (Wants G.kind v (Or l r) t c u ↔ (u ≡ t)) }
+    ensures window { (v : ℕ → ℕ → Span G.kind.Value) (a b c t u : ℕ) →
+        (Wants G.kind v (Eventually a b c) t c u ↔ ((t + a ≤ u) × (u ≤ t + b))) × (Wants G.kind v (Always a b c) t c u ↔ ((t + a ≤ u) × (u ≤ t + b))) }
+    ensures first { (left : ℕ → Span G.kind.Value) (b t : ℕ) → (s : ℕ) × FirstLowest G.kind left b t s }
+    ensures right { (v : ℕ → ℕ → Span G.kind.Value) (a b l r t s u : ℕ) → ¬ (l ≡ r) → FirstLowest G.kind (v l) b t s →
+        Wants G.kind v (Until a b l r) t r u ↔ ((t + a ≤ u) × (u < s)) }
+    ensures last { (right : ℕ → Span G.kind.Value) (a t s : ℕ) → ((w : ℕ) × LastNeeded G.kind right a t s w) ⊎ NoneNeeded G.kind right a t s }
+    ensures left { (v : ℕ → ℕ → Span G.kind.Value) (a b l r t s w u : ℕ) → ¬ (l ≡ r) → FirstLowest G.kind (v l) b t s → LastNeeded G.kind (v r) a t s w →
+        Wants G.kind v (Until a b l r) t l u ↔ ((t ≤ u) × (u ≤ w)) }
+    ensures nowhere { (v : ℕ → ℕ → Span G.kind.Value) (a b l r t s u : ℕ) → ¬ (l ≡ r) → FirstLowest G.kind (v l) b t s → NoneNeeded G.kind (v r) a t s →
+        ¬ (Wants G.kind v (Until a b l r) t l u) }
 {
     0
 }
 
 // Whether a row is wanted at a tick can be told, and so can whether it is marked there.
 pub fn wants_are_decided<G: Grade>() -> u8
-    ensures wanted { (rows : List Row) (v : ℕ → ℕ → Span kind.Value) (asked k u : ℕ) → Sound rows →
-        Dec (Wanted kind rows v asked k u) }
-    ensures marked { (rows : List Row) (x : Readings) (asked k u : ℕ) → Sound rows → Dec (Marked kind rows x asked k u) }
+    ensures wanted { (rows : List Row) (v : ℕ → ℕ → Span G.kind.Value) (asked k u : ℕ) → Sound rows →
+        Dec (Wanted G.kind rows v asked k u) }
+    ensures marked { (rows : List Row) (x : Readings) (asked k u : ℕ) → Sound rows → Dec (Marked G.kind rows x asked k u) }
 {
     0
 }
 
 // No row is wanted before the asked tick, nor further behind it than the rule looks ahead.
 pub fn wants_are_bounded<G: Grade>() -> u8
-    ensures { (rows : List Row) (v : ℕ → ℕ → Span kind.Value) (asked k u : ℕ) → Sound rows → Wanted kind rows v asked k u →
+    ensures { (rows : List Row) (v : ℕ → ℕ → Span G.kind.Value) (asked k u : ℕ) → Sound rows → Wanted G.kind rows v asked k u →
         (k < length rows) × (asked ≤ u) × (u ≤ asked + reach rows) }
 {
     0
@@ -130,12 +130,12 @@ pub fn wants_are_bounded<G: Grade>() -> u8
 // Each verdict has its marks, in one list and no other. It lists the ticks at which a test row is wanted and not settled.
 // Of two marks, the one with the smaller row stands first; of one row, the one that ends before the other begins.
 pub fn marks_are_one_list<G: Grade>() -> u8
-    ensures some { (rows : List Row) (x : Readings) (t : ℕ) → Sound rows → (ms : List Mark) × Marks kind rows x t ms }
+    ensures some { (rows : List Row) (x : Readings) (t : ℕ) → Sound rows → (ms : List Mark) × Marks G.kind rows x t ms }
     ensures one { (rows : List Row) (x : Readings) (t : ℕ) (ms ns : List Mark) →
-        Marks kind rows x t ms → Marks kind rows x t ns → ms ≡ ns }
-    ensures ticks { (rows : List Row) (x : Readings) (t : ℕ) (ms : List Mark) (k u : ℕ) → Marks kind rows x t ms →
-        Listed ms k u ↔ (((line : ℕ) × Tests (row_at rows k) line) × Wanted kind rows (value (ranges kind) rows x) t k u × ¬ (Settled kind (value (ranges kind) rows x k u))) }
-    ensures order { (rows : List Row) (x : Readings) (t : ℕ) (before between behind : List Mark) (m n : Mark) → Marks kind rows x t (before ++ (m ∷ (between ++ (n ∷ behind)))) →
+        Marks G.kind rows x t ms → Marks G.kind rows x t ns → ms ≡ ns }
+    ensures ticks { (rows : List Row) (x : Readings) (t : ℕ) (ms : List Mark) (k u : ℕ) → Marks G.kind rows x t ms →
+        Listed ms k u ↔ (((line : ℕ) × Tests (row_at rows k) line) × Wanted G.kind rows (value (ranges G.kind) rows x) t k u × ¬ (Settled G.kind (value (ranges G.kind) rows x k u))) }
+    ensures order { (rows : List Row) (x : Readings) (t : ℕ) (before between behind : List Mark) (m n : Mark) → Marks G.kind rows x t (before ++ (m ∷ (between ++ (n ∷ behind)))) →
         (m.row < n.row) ⊎ ((m.row ≡ n.row) × (m.after < n.first)) }
 {
     0

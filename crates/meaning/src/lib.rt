@@ -1,4 +1,6 @@
 // What rules mean: readings, the values of rows, verdicts, wants and marks, and the laws that they keep.
+#![tactic(auto)]
+
 pub mod laws;
 pub mod mark;
 pub mod outcome;

@@ -1,5 +1,5 @@
 -- The join over a window of ticks, piece by piece. A caller says by Gathers what its own windowed join is.
-use Rattle.std.proofs.Common.{◌≡◌, ℕ, zero, suc, ◌+◌, ◌-◌, ◌<◌, ◌≤◌, Some, None, Option, sym, ap, ◌∙◌, subst, ⊎_elim, arith}
+use Rattle.std.proofs.Common.{◌≡◌, ℕ, zero, suc, ◌+◌, ◌-◌, ◌<◌, ◌≤◌, Some, Option, sym, ap, ◌∙◌, subst, ⊎_elim, arith}
 use Rattle.std.proofs.lemmas.Bool.{cases_lt, cases_eq}
 use Rattle.pieces.specs.Ticks.{Before, Later, Steady}
 use Rattle.pieces.proofs.Steadies.{later_trans, before_self, before_most}

@@ -1,4 +1,6 @@
 // Piece lists: values over all ticks, for any kind of value that can be told equal.
+#![tactic(auto)]
+
 pub mod laws;
 pub mod list;
 pub mod piece;

@@ -1,5 +1,5 @@
 // Signals: what gives a value at every tick, and tells how long it lasts.
-ghost use Rattle.std.specs.Prelude.{◌≡◌, ℕ};
+ghost use Rattle.std.specs.Prelude.{ℕ};
 ghost use Rattle.pieces.specs.Views.{Agree};
 ghost use Rattle.pieces.specs.Ticks.{Steady};
 ghost use Rattle.pieces.specs.Pieces.{at_list};

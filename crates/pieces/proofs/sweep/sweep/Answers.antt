@@ -35,7 +35,7 @@ pub returns : goal.returns
 returns g c =
     let first = c.step-first.result.0 in
     going_whole g.S.Signal.value (g.S.Signal.f c.args.source.now) c.args.cells.now c.args.used c.if-used-cells.false first c.loop-next.cells c.loop-next.end c.loop-next.last c.loop-next.next
-    (c.loop-next.auto.cells ∙ length-set c.args.cells.now c.args.used (piece 0 first)) c.loop-next.invariant c.in-default.is
+    (c.loop-next.auto.cells ∙ length-set c.args.cells.now c.args.used (piece 0 first)) c.loop-next.invariant c.in_default.is
 
 pub returns-then-end-cells : goal.returns-then-end-cells
 returns-then-end-cells g c =

@@ -6,4 +6,4 @@ pub returns : goal.returns
 returns c =
     let p = c.args.self in
     let q = c.args.other in
-    tells_as c.same-ends.result (λ h. reading_same p q h.0 h.1) (λ e. (ap (λ r. r.lower) e, ap (λ r. r.upper) e)) c.same-ends.ensures
+    tells_as c.same_ends.result (λ h. reading_same p q h.0 h.1) (λ e. (ap (λ r. r.lower) e, ap (λ r. r.upper) e)) c.same_ends.ensures
