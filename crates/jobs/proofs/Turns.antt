@@ -1,5 +1,5 @@
 -- What an entry leaves: a sound job, and the state that the run of calls wants.
-use Rattle.std.proofs.Common.{◌≡◌, ℕ, ◌+◌, ◌-◌, ◌*◌, ◌<◌, ◌≤◌, Bool, cond, ◌&&◌, ltb, leb, List, [], ◌∷◌, ◌++◌, map, length, get_or, take, drop, set, Ok, Err, Result, sym, refl, ap, ◌∙◌, subst, ap₂, inr, ⊎_elim, arith, eq-eqb}
+use Rattle.std.proofs.Common.{◌≡◌, ℕ, ◌+◌, ◌*◌, ◌<◌, ◌≤◌, Bool, cond, ◌&&◌, ltb, leb, List, [], ◌∷◌, ◌++◌, map, length, get_or, take, drop, set, Ok, Err, Result, sym, refl, ap, ◌∙◌, subst, ap₂, inr, ⊎_elim, arith, eq-eqb}
 use mathlib.Core.Logic.{∥∥₁_map}
 use Rattle.std.specs.List.{range_with_len}
 use Rattle.std.proofs.lemmas.List.FromFn.{fill_by_all}
@@ -56,7 +56,7 @@ lists_as f g [] e l = absurd l.0
 lists_as f g (p ∷ ps) e l = (l.0, λ t. l.1 t ∙ e t)
 
 -- the lines with the pieces es put into one of them
-module _ (cells : List (Piece Reading)) (lines : ℕ) (counts : List ℕ) (sound : Sound cells lines counts) (line : ℕ) (there : line < lines) (counted-in : line < length counts) (es : List (Piece Reading)) (short : length es ≤ 64) where
+module _ (cells : List (Piece Reading)) (lines : ℕ) (counts : List ℕ) (sound : Sound cells lines counts) (line : ℕ) (there : line < lines) (counted_in : line < length counts) (es : List (Piece Reading)) (short : length es ≤ 64) where
   abbrev after : List (Piece Reading)
   after = written cells (64 * line) es
 
@@ -70,7 +70,7 @@ module _ (cells : List (Piece Reading)) (lines : ℕ) (counts : List ℕ) (sound
   rest_kept = (take_written cells (64 * line) es fits (64 * line) (omega arith), drop_written cells (64 * line) es fits (64 * line + 64) (omega arith))
 
   here : pieces_at after sizes line ≡ es
-  here = ap (part after (64 * line)) (get_or-set_same counts line (length es) 0 counted-in) ∙ part_written cells (64 * line) es fits
+  here = ap (part after (64 * line)) (get_or-set_same counts line (length es) 0 counted_in) ∙ part_written cells (64 * line) es fits
 
   other : (k : ℕ) → k < lines → (k ≡ line → ⊥) → pieces_at after sizes k ≡ pieces_at cells counts k
   other k h n =
@@ -100,7 +100,7 @@ module _ (cells : List (Piece Reading)) (lines : ℕ) (counts : List ℕ) (sound
     few = sound.few;
     room = omega (arith, sound.room, length_written cells (64 * line) es fits);
     short = λ k h. ⊎_elim
-        (λ (e : k ≡ line). subst (λ j. get_or sizes j 0 ≤ 64) (sym e) (omega (arith, get_or-set_same counts line (length es) 0 counted-in)))
+        (λ (e : k ≡ line). subst (λ j. get_or sizes j 0 ≤ 64) (sym e) (omega (arith, get_or-set_same counts line (length es) 0 counted_in)))
         (λ (n : k ≡ line → ⊥). omega (arith, get_or-set_other counts line k (length es) 0 n, sound.short k h))
         (cases_eq k line);
     kept = ∥∥₁_map sound.kept (λ (all : AllKept cells lines counts). λ k h. ⊎_elim
@@ -150,13 +150,13 @@ module _ (cells : List (Piece Reading)) (lines : ℕ) (counts : List ℕ) (tally
   Left xs n m = Sound xs lines (set counts line n) × Turns (Ok accepted) (state_from xs lines (set counts line n) m sealed) × Changes line cells xs (Ok tt)
 
   pub taken_up : (xs : List (Piece Reading)) (n m : ℕ) → line < length counts → length es ≤ 64 → xs ≡ written cells (64 * line) es → n ≡ length es → m ≡ counted tally → Left xs n m
-  taken_up xs n m counted-in short xe ne me =
+  taken_up xs n m counted_in short xe ne me =
       let ps = pieces_at cells counts line in
       let kept = kept_set ps es from to p ready.stretch.1 (kept_at cells lines counts sound line there) l in
       let turn : Turns (Ok accepted) (state_from (written cells (64 * line) es) lines (set counts line (length es)) (counted tally) sealed) = (
         none_fails state line from to p.lower p.upper p (refl, refl) ready (room state line from to p ready ps es is l short),
-        (refl, (p, (es, (((refl, refl), set_listed state line from to p ready ps es is l), state_set cells lines counts sound line there counted-in es short (counted tally) sealed)))),
+        (refl, (p, (es, (((refl, refl), set_listed state line from to p ready ps es is l), state_set cells lines counts sound line there counted_in es short (counted tally) sealed)))),
       ) in
       let all : Left (written cells (64 * line) es) (length es) (counted tally) =
-      (sound_set cells lines counts sound line there counted-in es short kept, turn, rest_kept cells lines counts sound line there counted-in es short) in
+      (sound_set cells lines counts sound line there counted_in es short kept, turn, rest_kept cells lines counts sound line there counted_in es short) in
       subst (λ ys. Left ys n m) (sym xe) (subst (λ j. Left (written cells (64 * line) es) j m) (sym ne) (subst (Left (written cells (64 * line) es) (length es)) (sym me) all))

@@ -1,4 +1,6 @@
 // A job: what is known of each line at each tick, kept as pieces in cells that the caller lends.
+#![tactic(auto)]
+
 pub mod calls;
 mod edit;
 mod entering;

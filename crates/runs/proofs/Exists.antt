@@ -1,16 +1,15 @@
 -- Every list of calls has a run: each condition can be told, and what an accepted call has to find is there.
-use Rattle.std.proofs.Common.{◌≡◌, ℕ, zero, suc, ◌+◌, ◌-◌, ◌<◌, ◌≤◌, Bool, true, false, ◌⊎◌, List, [], ◌∷◌, ◌++◌, length, get_or, set, ℤ, pos, negsuc, ◌≤ℤ◌, Some, None, Ok, Err, Option, Result, sym, refl, ap, ◌∙◌, subst, inl, inr, sub-one, arith}
-use native.Mathlib.Decide.{dec_lt, dec_le, ℕ_discrete}
+use Rattle.std.proofs.Common.{◌≡◌, ℕ, suc, ◌+◌, ◌<◌, ◌≤◌, Bool, true, false, List, [], ◌∷◌, length, get_or, set, ℤ, pos, negsuc, ◌≤ℤ◌, Some, None, Ok, Err, Option, Result, sym, refl, ap, ◌∙◌, subst, inl, inr, arith}
+use native.Mathlib.Decide.{dec_lt, dec_le}
 use lib.Signed.{≤ℤ_refl, le_z}
 use Rattle.std.proofs.lemmas.Int.{ints, clamps}
-use Rattle.grades.specs.Kinds.{Kind, Lawful, Tells}
+use Rattle.grades.specs.Kinds.{Kind, Lawful}
 use Rattle.grades.specs.Ranges.{Span, ends_same}
 use Rattle.rules.specs.declared.row.Row.{Row}
 use Rattle.rules.specs.declared.row.Row.TheVariants.{Test, Not, And, Or, Eventually, Always, Until}
-use Rattle.rules.specs.Rows.{row_at, root, reach, Sound}
+use Rattle.rules.specs.Rows.{row_at}
 use Rattle.pieces.specs.declared.piece.Piece.{Piece}
 use Rattle.pieces.specs.Pieces.{Lists}
-use Rattle.pieces.specs.Ticks.{Settles}
 use Rattle.pieces.proofs.Chains.{only_one}
 use Rattle.pieces.proofs.Exists.{listed}
 use Rattle.meaning.specs.declared.reading.Reading.{Reading}
@@ -18,18 +17,16 @@ use Rattle.meaning.specs.declared.mark.Mark.{Mark}
 use Rattle.meaning.specs.Readings.{Readings, Ends, Reads, widest, Within, entered}
 use Rattle.meaning.specs.Values.{value}
 use Rattle.meaning.specs.Verdicts.{ranges, verdict}
-use Rattle.meaning.specs.Wants.{Wanted}
-use Rattle.meaning.specs.Marks.{Tests, Marked, Marks}
+use Rattle.meaning.specs.Marks.{Tests, Marked}
 use Rattle.meaning.proofs.Readings.{reading_same, entered_elsewhere}
-use Rattle.meaning.proofs.Deciding.{both?, not?, as?, First, first, some?}
-use Rattle.meaning.proofs.Decided.{wanted?, has_marks}
-use Rattle.meaning.proofs.Bounded.{wanted_near}
+use Rattle.meaning.proofs.Deciding.{both?, not?, as?, first, some?}
+use Rattle.meaning.proofs.Decided.{has_marks}
 use Rattle.meaning.proofs.Pinned.{lists_same}
 use Rattle.runs.specs.States.{State, readings_of, made, opened}
-use Rattle.runs.specs.Conditions.{Condition, asks, FirstFailing}
-use Rattle.runs.specs.Jobs.{JobCall, enter, known, tally, seal, JobAnswer, accepted, first_unknown, count, counted, Narrows, Set, Room, enter_asks, FirstUnknown, job_asks, JobDoes, JobTurn}
-use Rattle.runs.specs.Calls.{Table, all, HasLines, RowLists, TellsWanted, WantLists, judge_asks, mark_asks, JudgeTurn, Marking, MarkTurn}
-use Rattle.runs.specs.Runs.{Call, on_job, judge, mark, Reply, Event, event, Replies, events, Turn, Ran}
+use Rattle.runs.specs.Conditions.{Condition, FirstFailing}
+use Rattle.runs.specs.Jobs.{JobCall, enter, known, tally, seal, accepted, first_unknown, count, counted, Narrows, Set, Room, enter_asks, FirstUnknown, job_asks, JobTurn}
+use Rattle.runs.specs.Calls.{Table, all, HasLines, RowLists, judge_asks, mark_asks, JudgeTurn, Marking, MarkTurn}
+use Rattle.runs.specs.Runs.{Call, on_job, judge, mark, Reply, event, Replies, events, Turn, Ran}
 use Rattle.runs.specs.Law.{Run}
 use Rattle.runs.proofs.Turns.{made_is, set_reads, entry_passes, opened_reads}
 use Rattle.runs.proofs.Settling.{rows_settle}

@@ -1,9 +1,9 @@
 -- Verdicts and marks along a run.
-use Rattle.std.proofs.Common.{◌≡◌, ℕ, List, [], ◌∷◌, ◌++◌, Ok, Err, sym, refl, ap, ◌∙◌, subst}
+use Rattle.std.proofs.Common.{◌≡◌, ℕ, List, ◌∷◌, ◌++◌, sym, ap, ◌∙◌, subst}
 use Rattle.grades.specs.Kinds.{Kind, Lawful}
 use Rattle.grades.specs.Ranges.{Span, Inside, Holds, Settled}
 use Rattle.rules.specs.declared.row.Row.{Row}
-use Rattle.rules.specs.Rows.{root, row_at, Sound}
+use Rattle.rules.specs.Rows.{root, Sound}
 use Rattle.meaning.specs.declared.reading.Reading.{Reading}
 use Rattle.meaning.specs.declared.mark.Mark.{Mark}
 use Rattle.meaning.specs.Readings.{Readings, Within, Exact, AllWithin, AllExact}
@@ -13,9 +13,8 @@ use Rattle.meaning.proofs.Rows.{root_below}
 use Rattle.meaning.proofs.Kept.{values_nest, values_hold}
 use Rattle.meaning.proofs.Blame.{marks_suffice_lem, marks_settle_lem}
 use Rattle.runs.specs.States.{State, opened, readings_of}
-use Rattle.runs.specs.Calls.{Table}
-use Rattle.runs.specs.Runs.{Event, event, judge, mark, Turn, Ran, standing, Gives, by_judge, by_mark, MarksBy, marked, AllMiss}
-use Rattle.runs.proofs.Turns.{ran_narrows, turn_narrows, ran_keeps, turn_reads, ran_split, ran_join, opened_reads, within_refl, within_trans}
+use Rattle.runs.specs.Runs.{Event, Turn, Ran, standing, Gives, by_judge, by_mark, MarksBy, marked, AllMiss}
+use Rattle.runs.proofs.Turns.{ran_narrows, turn_narrows, ran_keeps, ran_split, ran_join, opened_reads, within_refl, within_trans}
 
 -- what an accepted judgement or marking of the state s says
 pub record Said (K : Kind) (s : State) (rows : List Row) (t : ℕ) (p : Span K.Value) : Type 0 where

@@ -1,12 +1,11 @@
 -- Rows' values change no more from some tick on, if the readings do not.
-use Rattle.std.proofs.Common.{◌≡◌, ℕ, zero, suc, ◌+◌, ◌-◌, ◌<◌, ◌≤◌, ◌⊎◌, List, length, sym, refl, ap, ◌∙◌, ap₂, inl, inr, arith}
+use Rattle.std.proofs.Common.{◌≡◌, ℕ, zero, suc, ◌+◌, ◌-◌, ◌<◌, ◌≤◌, List, length, sym, refl, ap, ◌∙◌, ap₂, inl, inr, arith}
 use Rattle.grades.specs.Kinds.{Kind}
 use Rattle.grades.specs.Ranges.{Span, spans}
 use Rattle.rules.specs.declared.row.Row.{Row}
 use Rattle.rules.specs.declared.row.Row.TheVariants.{Test, Not, And, Or, Eventually, Always, Until}
 use Rattle.rules.specs.Rows.{row_at, Child, Sound}
 use Rattle.pieces.specs.Ticks.{Settles}
-use Rattle.meaning.specs.declared.reading.Reading.{Reading}
 use Rattle.meaning.specs.Readings.{Readings}
 use Rattle.meaning.specs.Limits.{range_of}
 use Rattle.meaning.specs.Values.{over, until_at, step, value}

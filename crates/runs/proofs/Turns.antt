@@ -1,5 +1,5 @@
 -- What one call does to the readings.
-use Rattle.std.proofs.Common.{◌≡◌, ℕ, zero, suc, ◌<◌, ◌≤◌, Bool, true, false, cond, ◌&&◌, eqb, ltb, leb, ◌≢◌, ◌⊎◌, List, [], ◌∷◌, ◌++◌, length, get_or, set, replicate, ℤ, pos, negsuc, ◌≤ℤ◌, Some, None, Ok, Err, Option, Result, sym, refl, ap, ◌∙◌, subst, inl, inr, arith, get_or-set_other, get_or-set_same, ltb-false, ltb-true, eqb-true, leb-false, leb-true}
+use Rattle.std.proofs.Common.{◌≡◌, ℕ, zero, suc, ◌<◌, ◌≤◌, Bool, true, false, cond, ◌&&◌, eqb, ltb, leb, ◌≢◌, ◌⊎◌, List, [], ◌∷◌, ◌++◌, length, get_or, set, replicate, ℤ, Some, None, Ok, Err, sym, refl, ap, ◌∙◌, subst, inl, inr, arith, get_or-set_other, get_or-set_same, ltb-false, ltb-true, eqb-true, leb-false, leb-true}
 use borrow.Author.Tests.{eqb-false}
 use lib.Signed.{≤ℤ_refl}
 use Rattle.std.proofs.lemmas.Int.{ints, clamps}
@@ -15,8 +15,8 @@ use Rattle.meaning.specs.Marks.{Tests, Listed}
 use Rattle.meaning.proofs.Readings.{reading_same, entered_here, entered_elsewhere}
 use Rattle.runs.specs.States.{State, reading_at, readings_of, made, blank, opened}
 use Rattle.runs.specs.Conditions.{Condition, asks, FirstFailing}
-use Rattle.runs.specs.Jobs.{JobCall, enter, known, tally, seal, JobAnswer, Set, Narrows, Room, enter_asks, JobTurn}
-use Rattle.runs.specs.Runs.{Call, on_job, judge, mark, Event, event, Turn, Ran, after, after_all, Touches, Misses, AllMiss}
+use Rattle.runs.specs.Jobs.{enter, known, tally, seal, JobAnswer, Set, Narrows, Room, enter_asks, JobTurn}
+use Rattle.runs.specs.Runs.{on_job, judge, mark, Event, event, Turn, Ran, after, after_all, Misses, AllMiss}
 
 -- a condition that is passed
 pub passes : (c : Condition) (cs : List Condition) → FirstFailing (c ∷ cs) None → c.holds × FirstFailing cs None

@@ -1,20 +1,19 @@
 -- A list of calls has one run at most.
-use Rattle.std.proofs.Common.{◌≡◌, ℕ, ◌<◌, Bool, true, false, ltb, ◌⊎◌, List, [], ◌∷◌, ◌++◌, length, set, ℤ, Some, None, Ok, Err, Option, Result, sym, refl, ap, ◌∙◌, subst, inl, inr, arith, ltb-false, ltb-true}
+use Rattle.std.proofs.Common.{◌≡◌, ℕ, ◌<◌, Bool, true, false, ltb, ◌⊎◌, List, [], ◌∷◌, set, Some, None, Ok, Err, Option, Result, sym, refl, ap, ◌∙◌, subst, inl, inr, arith, ltb-false, ltb-true}
 use Rattle.grades.specs.Kinds.{Kind}
 use Rattle.grades.specs.Ranges.{Span}
 use Rattle.pieces.specs.declared.piece.Piece.{Piece}
 use Rattle.pieces.specs.Pieces.{Lists}
 use Rattle.pieces.proofs.Chains.{only_one}
 use Rattle.meaning.specs.declared.reading.Reading.{Reading}
-use Rattle.meaning.specs.declared.mark.Mark.{Mark}
-use Rattle.meaning.specs.Readings.{Readings, entered, widest}
+use Rattle.meaning.specs.Readings.{Readings, entered}
 use Rattle.meaning.specs.Marks.{Marked}
 use Rattle.meaning.proofs.Pinned.{lists_same}
-use Rattle.runs.specs.States.{State, opened, readings_of, made}
+use Rattle.runs.specs.States.{State, opened, readings_of}
 use Rattle.runs.specs.Conditions.{Condition, FirstFailing}
-use Rattle.runs.specs.Jobs.{JobCall, enter, known, tally, seal, JobAnswer, accepted, first_unknown, count, counted, FirstUnknown, job_asks, JobDoes, JobTurn}
+use Rattle.runs.specs.Jobs.{JobCall, enter, known, tally, seal, JobAnswer, first_unknown, counted, FirstUnknown, job_asks, JobDoes, JobTurn}
 use Rattle.runs.specs.Calls.{Table, Marking, judge_asks, mark_asks, JudgeTurn, MarkTurn}
-use Rattle.runs.specs.Runs.{Call, on_job, judge, mark, Reply, Event, event, Replies, events, Turn, Ran}
+use Rattle.runs.specs.Runs.{Call, on_job, judge, mark, Reply, event, Replies, events, Turn, Ran}
 use Rattle.runs.specs.Law.{Run}
 use Rattle.runs.proofs.Turns.{made_is}
 

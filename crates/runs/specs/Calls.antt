@@ -52,8 +52,8 @@ module _ (K : Kind) (s : State) (rows : List Row) (t cells : ℕ) where
 
 -- numbers 10 and 11
 abbrev pub mark_asks : Kind → State → List Row → ℕ → ℕ → ℕ → List Condition
-mark_asks K s rows t want-cells mark-cells =
-    asks 10 ((pss : List (List (Piece Bool))) → WantLists K rows (readings_of s) t pss → length (all pss) ≤ want-cells) ∷ (asks 11 ((ms : List Mark) → Marks K rows (readings_of s) t ms → length ms ≤ mark-cells) ∷ [])
+mark_asks K s rows t want_cells mark_cells =
+    asks 10 ((pss : List (List (Piece Bool))) → WantLists K rows (readings_of s) t pss → length (all pss) ≤ want_cells) ∷ (asks 11 ((ms : List Mark) → Marks K rows (readings_of s) t ms → length ms ≤ mark_cells) ∷ [])
 
 -- a judgement of the state s
 abbrev pub JudgeTurn : (K : Kind) → State → List Row → ℕ → ℕ → Result (Span K.Value) ℕ → Type 0
@@ -67,6 +67,6 @@ pub record Marking (K : Kind) : Type 0 where
 
 -- a marking of the state s
 abbrev pub MarkTurn : (K : Kind) → State → List Row → ℕ → ℕ → ℕ → ℕ → Result (Marking K) ℕ → Type 0
-MarkTurn K s rows t row-cells want-cells mark-cells (Ok m) =
-    FirstFailing (judge_asks K s rows t row-cells (mark_asks K s rows t want-cells mark-cells)) None × (m.verdict ≡ verdict K rows (readings_of s) t) × Marks K rows (readings_of s) t m.marks
-MarkTurn K s rows t row-cells want-cells mark-cells (Err n) = FirstFailing (judge_asks K s rows t row-cells (mark_asks K s rows t want-cells mark-cells)) (Some n)
+MarkTurn K s rows t row_cells want_cells mark_cells (Ok m) =
+    FirstFailing (judge_asks K s rows t row_cells (mark_asks K s rows t want_cells mark_cells)) None × (m.verdict ≡ verdict K rows (readings_of s) t) × Marks K rows (readings_of s) t m.marks
+MarkTurn K s rows t row_cells want_cells mark_cells (Err n) = FirstFailing (judge_asks K s rows t row_cells (mark_asks K s rows t want_cells mark_cells)) (Some n)

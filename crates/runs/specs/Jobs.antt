@@ -1,5 +1,5 @@
 -- The calls that concern the job alone: when each is turned down, and what it does.
-use Rattle.std.specs.Prelude.{◌≡◌, ℕ, ◌+◌, ◌<◌, ◌≤◌, min, Bool, true, false, List, [], ◌∷◌, length, set, ℤ, Some, None, Ok, Err, Result, ◌≢◌, slice_set}
+use Rattle.std.specs.Prelude.{◌≡◌, ℕ, ◌+◌, ◌<◌, ◌≤◌, min, true, false, List, [], ◌∷◌, length, ℤ, Some, None, Ok, Err, Result, ◌≢◌, slice_set}
 use Rattle.pieces.specs.declared.piece.Piece.{Piece}
 use Rattle.pieces.specs.Pieces.{Lists}
 use Rattle.meaning.specs.declared.reading.Reading.{Reading}

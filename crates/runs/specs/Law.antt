@@ -1,5 +1,5 @@
 -- The law of runs: what holds of every list of calls on a job just opened, for every family of lawful kinds.
-use Rattle.std.specs.Prelude.{◌≡◌, ℕ, List, [], ◌∷◌, ◌++◌}
+use Rattle.std.specs.Prelude.{◌≡◌, ℕ, List, ◌∷◌, ◌++◌}
 use Rattle.grades.specs.Kinds.{Kind}
 use Rattle.grades.specs.Ranges.{Span, Inside, Holds, Settled}
 use Rattle.rules.specs.declared.row.Row.{Row}

@@ -17,7 +17,7 @@ module _ {N : Type 0} (kinds : N → Kind) where
   pub data Call : Type 0 where
     on_job : JobCall → Call
     judge : N → Table → (tick cells : ℕ) → Call
-    mark : N → Table → (tick row-cells want-cells mark-cells : ℕ) → Call
+    mark : N → Table → (tick row_cells want_cells mark_cells : ℕ) → Call
 
   -- what the call may answer: a refusal has a number
   abbrev pub Reply : Call → Type 0

@@ -1,5 +1,5 @@
 -- A job's state: each line's pieces, how many entries were accepted, and whether entering has ended.
-use Rattle.std.specs.Prelude.{◌≡◌, ℕ, ◌/◌, min, Bool, true, false, ◌&&◌, List, [], ◌∷◌, replicate, ℤ, pos, negsuc, ◌≤ℤ◌, slice_index_or}
+use Rattle.std.specs.Prelude.{ℕ, ◌/◌, min, Bool, false, List, [], ◌∷◌, replicate, ℤ, pos, negsuc, ◌≤ℤ◌, slice_index_or}
 use Rattle.std.proofs.Common.{arith}
 use Rattle.std.specs.Int.{int_min, int_max}
 use Rattle.std.proofs.lemmas.Int.{ints, clamps}

@@ -7,8 +7,8 @@ use Rattle.runs.proofs.law.runs_keep_the_law.Goals as goal
 
 pub returns : goal.returns
 returns g c =
-    let kinds = g.F.Kinds.kinds in
-    let lawful = g.F.Kinds.lawful in
+    let kinds = g.F.Family.kinds in
+    let lawful = g.met.F.Kinds.lawful in
     record {
       some = run_exists kinds lawful;
       one = run_one kinds;

@@ -5,20 +5,20 @@ use Rattle.jobs.proofs.Parts.{length_lines, line_at}
 use Rattle.jobs.proofs.Refusals.{reads_as, barred_fails, fails_4, fails_5, is_ready}
 use Rattle.jobs.proofs.held.Held.checked.Goals as goal
 
-pub returns-in-err-barred : goal.returns-in-err-barred
-returns-in-err-barred c =
+pub returns-in_err-barred : goal.returns-in_err-barred
+returns-in_err-barred c =
     let h = c.args.self.now in
-    let p = err_from_is_err_and c.from-residual.result c.from-residual.ensures.1 in
+    let p = err_from_is_err_and c.from_residual.result c.from_residual.ensures.1 in
     rw (p.1, p.2)
-    (barred_fails (held_state h) h.lines (length_lines h.cells.now h.lines h.counts) c.args.line c.args.from c.args.to c.args.lower c.args.upper c.in-err-barred.field-0.0 c.in-err-barred.ensures)
+    (barred_fails (held_state h) h.lines (length_lines h.cells.now h.lines h.counts) c.args.line c.args.from c.args.to c.args.lower c.args.upper c.in_err-barred.field-0.0 c.in_err-barred.ensures)
 
-pub returns-in-default : goal.returns-in-default
-returns-in-default c =
+pub returns-in_default : goal.returns-in_default
+returns-in_default c =
     let h = c.args.self.now in
     let l = c.args.lower in
     let u = c.args.upper in
-    fails_4 (held_state h) h.lines (length_lines h.cells.now h.lines h.counts) c.args.line c.args.from c.args.to l u c.in-ok-barred.ensures
-    (reads_as (to_z w32 (of_z w32 l)) (to_z w32 (of_z w32 u)) l u None (to_z-of_z c.ranges.lower) (to_z-of_z c.ranges.upper) c.in-default.ensures)
+    fails_4 (held_state h) h.lines (length_lines h.cells.now h.lines h.counts) c.args.line c.args.from c.args.to l u c.in_ok-barred.ensures
+    (reads_as (to_z w32 (of_z w32 l)) (to_z w32 (of_z w32 u)) l u None (to_z-of_z c.ranges.lower) (to_z-of_z c.ranges.upper) c.in_default.ensures)
 
 pub returns-then-not-narrows : goal.returns-then-not-narrows
 returns-then-not-narrows c =
@@ -26,7 +26,7 @@ returns-then-not-narrows c =
     let l = c.args.lower in
     let u = c.args.upper in
     let p = c.in-Some.reading in
-    let b = c.in-ok-barred.ensures in
+    let b = c.in_ok-barred.ensures in
     fails_5 (held_state h) h.lines (length_lines h.cells.now h.lines h.counts) c.args.line c.args.from c.args.to l u b
     p (reads_as (to_z w32 (of_z w32 l)) (to_z w32 (of_z w32 u)) l u (Some p) (to_z-of_z c.ranges.lower) (to_z-of_z c.ranges.upper) c.in-Some.ensures)
     c.pieces.result.now (line_at h.cells.now h.lines h.counts c.args.line b.1 ∙ sym c.pieces.ensures.are) c.if-not-narrows.ensures
@@ -37,7 +37,7 @@ returns c =
     let l = c.args.lower in
     let u = c.args.upper in
     let p = c.in-Some.reading in
-    let b = c.in-ok-barred.ensures in
+    let b = c.in_ok-barred.ensures in
     let r = reads_as (to_z w32 (of_z w32 l)) (to_z w32 (of_z w32 u)) l u (Some p) (to_z-of_z c.ranges.lower) (to_z-of_z c.ranges.upper) c.in-Some.ensures in (
       r,
       is_ready (held_state h) h.lines (length_lines h.cells.now h.lines h.counts) c.args.line c.args.from c.args.to l u b p r

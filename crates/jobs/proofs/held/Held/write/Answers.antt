@@ -4,8 +4,8 @@ use Rattle.jobs.specs.Edits.{edited}
 use Rattle.jobs.proofs.Turns.{edit_order, edit_size, edit_lists, turned_down, taken_up}
 use Rattle.jobs.proofs.held.Held.write.Goals as goal
 
-pub size-after-size-requires : goal.size-after-size-requires
-size-after-size-requires c =
+pub size_after-size-requires : goal.size_after-size-requires
+size_after-size-requires c =
     let h = c.args.self.now in
     record {
       order = edit_order h.cells.now h.lines h.counts c.requires.sound c.args.line c.requires.there c.pieces.result.now c.pieces.ensures.are c.plan-edit.result c.plan-edit.ensures.order;
@@ -20,7 +20,7 @@ splice-requires c =
     record {
       order = edit_order h.cells.now h.lines h.counts c.requires.sound c.args.line c.requires.there c.pieces.result.now c.pieces.ensures.are c.plan-edit.result c.plan-edit.ensures.order;
       before = omega (arith, few, room, c.requires.there);
-      after = omega (arith, few, room, c.requires.there, c.if-size-gt-ROOM.false, c.size-after-size.ensures);
+      after = omega (arith, few, room, c.requires.there, c.if-size-gt-ROOM.false, c.size_after-size.ensures);
     }
 
 pub returns-then-size-gt-ROOM : goal.returns-then-size-gt-ROOM
@@ -31,7 +31,7 @@ returns-then-size-gt-ROOM c =
     let qs = c.pieces.result.now in
     let es = edited (held_pieces h k) e in
     let l = edit_lists h.cells.now h.lines h.counts c.requires.sound k c.requires.there qs c.pieces.ensures.are e c.plan-edit.ensures.order c.args.from c.args.to c.args.reading c.plan-edit.ensures.lists in
-    let n = edit_size h.cells.now h.lines h.counts c.requires.sound k c.requires.there qs c.pieces.ensures.are e c.plan-edit.ensures.order c.size-after-size.result c.size-after-size.ensures in
+    let n = edit_size h.cells.now h.lines h.counts c.requires.sound k c.requires.there qs c.pieces.ensures.are e c.plan-edit.ensures.order c.size_after-size.result c.size_after-size.ensures in
     record {
       sound = c.requires.sound;
       turn = turned_down h.cells.now h.lines h.counts h.tally h.sealed c.requires.sound k c.requires.there c.args.from c.args.to c.args.reading c.requires.ready es l (omega (arith, n, c.if-size-gt-ROOM.true));
@@ -46,8 +46,8 @@ returns c =
     let qs = c.pieces.result.now in
     let es = edited (held_pieces h k) e in
     let l = edit_lists h.cells.now h.lines h.counts c.requires.sound k c.requires.there qs c.pieces.ensures.are e c.plan-edit.ensures.order c.args.from c.args.to c.args.reading c.plan-edit.ensures.lists in
-    let n = edit_size h.cells.now h.lines h.counts c.requires.sound k c.requires.there qs c.pieces.ensures.are e c.plan-edit.ensures.order c.size-after-size.result c.size-after-size.ensures in
+    let n = edit_size h.cells.now h.lines h.counts c.requires.sound k c.requires.there qs c.pieces.ensures.are e c.plan-edit.ensures.order c.size_after-size.result c.size_after-size.ensures in
     let in16 : k < length h.counts = search rules in
     let left = taken_up h.cells.now h.lines h.counts h.tally h.sealed c.requires.sound k c.requires.there c.args.from c.args.to c.args.reading c.requires.ready es l
-    c.splice.new.cells c.size-after-size.result c.saturating-add-self.result in16 (omega (arith, n, c.if-size-gt-ROOM.false)) c.splice.ensures n c.saturating-add-self.ensures in
+    c.splice.new.cells c.size_after-size.result c.saturating_add-self.result in16 (omega (arith, n, c.if-size-gt-ROOM.false)) c.splice.ensures n c.saturating_add-self.ensures in
     record { sound = left.0; turn = left.1; cells = left.2 }

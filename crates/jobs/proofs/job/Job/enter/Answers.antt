@@ -6,20 +6,20 @@ use Rattle.jobs.proofs.Parts.{length_lines}
 use Rattle.jobs.proofs.Refusals.{fails_as}
 use Rattle.jobs.proofs.job.Job.enter.Goals as goal
 
-pub returns-in-err-reading : goal.returns-in-err-reading
-returns-in-err-reading c =
-    let p = err_from_is_err_and c.from-residual.result c.from-residual.ensures.1 in
+pub returns-in_err-reading : goal.returns-in_err-reading
+returns-in_err-reading c =
+    let p = err_from_is_err_and c.from_residual.result c.from_residual.ensures.1 in
     let l = c.args.lower in
     let u = c.args.upper in
-    let fails = fails_as (state_of c.args.self.now) c.args.line c.args.from c.args.to (to_z w32 (of_z w32 l)) (to_z w32 (of_z w32 u)) l u (Some (fault_number c.in-err-reading.field-0.0))
-    (to_z-of_z c.ranges.lower) (to_z-of_z c.ranges.upper) c.in-err-reading.ensures in
+    let fails = fails_as (state_of c.args.self.now) c.args.line c.args.from c.args.to (to_z w32 (of_z w32 l)) (to_z w32 (of_z w32 u)) l u (Some (fault_number c.in_err-reading.field-0.0))
+    (to_z-of_z c.ranges.lower) (to_z-of_z c.ranges.upper) c.in_err-reading.ensures in
     rw (p.1, p.2) (record { turn = (fails, refl); cells = refl })
 
 pub write-requires : goal.write-requires
 write-requires c =
     let j = c.args.self.now in
     let h = j.held in
-    let ready = c.in-ok-reading.ensures.1 in
+    let ready = c.in_ok-reading.ensures.1 in
     record {
       sound = record { few = j.few; room = j.room; short = j.short; kept = j.kept };
       there = omega (arith, ready.there, length_lines h.cells.now h.lines h.counts);

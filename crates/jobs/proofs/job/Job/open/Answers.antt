@@ -9,12 +9,17 @@ loop-k-init c = opened_none c.args.cells.now
 pub loop-k-preserved : goal.loop-k-preserved
 loop-k-preserved c = opened_more c.args.cells.now c.loop-k.cells c.loop-k.k c.widest.result c.widest.ensures (omega arith) c.loop-k.invariant
 
-pub invariant-of-result : goal.invariant-of-result
-invariant-of-result c =
+pub invariant_of-result : goal.invariant_of-result
+invariant_of-result c =
     let n = c.min-count.result in
     let few : n ≤ 16 = search rules in
     let room : 64 * n ≤ length c.loop-k.cells = search rules in
-    (few, (room, ((λ k h. omega (arith, one_each n few k h)), (∣ blank_kept c.args.cells.now c.loop-k.cells n c.loop-k.k (omega arith) c.loop-k.invariant few room ∣₁, tt))))
+    record {
+      few = few;
+      room = room;
+      short = λ k h. omega (arith, one_each n few k h);
+      kept = ∣ blank_kept c.args.cells.now c.loop-k.cells n c.loop-k.k (omega arith) c.loop-k.invariant few room ∣₁;
+    }
 
 pub returns : goal.returns
 returns c =
