@@ -1,9 +1,9 @@
 -- The marks of one row after those of the rows before it.
-use Rattle.std.proofs.Common.{◌≡◌, ℕ, zero, suc, ◌+◌, ◌<◌, ◌≤◌, Bool, true, false, List, [], ◌∷◌, ◌++◌, length, take, drop, sym, refl, ap, ◌∙◌, subst, append_assoc, add-one, arith, length-append}
+use Rattle.std.proofs.Common.{◌≡◌, ℕ, ◌+◌, Bool, false, List, [], ◌++◌, length, take, drop, sym, refl, ap, ◌∙◌, subst, append_assoc, add-one, arith, length-append}
 use borrow.Author.Tests.{both_ways}
 use Rattle.std.proofs.lemmas.List.{drop-drop, append-nil}
 use Rattle.pieces.specs.Cells.{Put}
-use Rattle.judge.specs.Marks.{Stretches, OfRow, OfRows}
+use Rattle.judge.specs.Marks.{OfRow, OfRows}
 use Rattle.meaning.specs.declared.mark.Mark.{Mark}
 
 module _ {X : Type 0} where

@@ -1,8 +1,8 @@
 -- Where a child is wanted, from lists that are looked up.
-use Rattle.std.proofs.Common.{◌≡◌, ℕ, ◌≤◌, Bool, true, false, cond, ◌&&◌, eqb, leb, List, [], ◌∷◌, Option, sym, ap, ◌∙◌, subst, arith, eq-eqb, le-leb}
+use Rattle.std.proofs.Common.{◌≡◌, ℕ, Bool, true, false, cond, ◌&&◌, eqb, leb, List, [], ◌∷◌, Option, sym, ap, ◌∙◌, subst, arith, le-leb}
 use borrow.Author.Tests.{clash}
 use Rattle.grades.specs.Kinds.{Kind}
-use Rattle.grades.specs.Ranges.{Span, spans}
+use Rattle.grades.specs.Ranges.{spans}
 use Rattle.grades.specs.Worth.{worth}
 use Rattle.grades.specs.declared.range.Range.{Range}
 use Rattle.rules.specs.declared.row.Row.{Row}
@@ -18,7 +18,7 @@ use Rattle.judge.specs.declared.trial.Trial.TheVariants.{Loose, Lowest, Higher}
 use Rattle.judge.specs.Parts.{any}
 use Rattle.judge.specs.Reaches.{sees, holds}
 use Rattle.judge.specs.Signals.{heard}
-use Rattle.judge.specs.Places.{list_at, told}
+use Rattle.judge.specs.Places.{list_at}
 use Rattle.judge.specs.Trials.{tried, range_says, asked}
 use Rattle.judge.specs.Children.{child_says, said, row_says, passed_on}
 

@@ -1,13 +1,13 @@
 -- Some tick below a bound.
-use Rattle.std.specs.Prelude.{◌≡◌, ℕ, zero, suc, ◌+◌, ◌-◌, ◌<◌, ◌≤◌, max, Bool, true, false, not, ◌&&◌, ◌||◌, leb, ◌⊎◌, Some, None, Option, refl}
-use Rattle.std.proofs.Common.{sym, ◌∙◌, ap, subst, inl, inr, ⊎_elim, arith}
-use borrow.Author.Tests.{clash, leb-true, le-leb, both_ways}
-use Rattle.std.proofs.lemmas.Bool.{or_cases, or_left, or_right, cases_Bool, cases_order, cases_lt}
+use Rattle.std.specs.Prelude.{◌≡◌, ℕ, zero, suc, ◌+◌, ◌-◌, ◌<◌, ◌≤◌, max, Bool, true, false, ◌||◌, ◌⊎◌, Option, refl}
+use Rattle.std.proofs.Common.{sym, ◌∙◌, ap, inl, inr, ⊎_elim, arith}
+use borrow.Author.Tests.{clash}
+use Rattle.std.proofs.lemmas.Bool.{or_cases, or_left, or_right, cases_order, cases_lt}
 use Rattle.pieces.specs.Ticks.{sooner, Before}
 use Rattle.grades.specs.Kinds.{Tells}
 use Rattle.judge.specs.Yes.{Known}
 use Rattle.judge.specs.Parts.{any, Between}
-use Rattle.judge.specs.Knowns.{tells_map, tells_or, tells_same, known_map, known_near, known_or}
+use Rattle.judge.specs.Knowns.{tells_same, known_map, known_near, known_or}
 
 pub tells_true : (b : Bool) → Tells b (b ≡ true)
 tells_true true = refl

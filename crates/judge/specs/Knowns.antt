@@ -1,6 +1,6 @@
 -- What is known of a fact, put together.
-use Rattle.std.specs.Prelude.{◌≡◌, ℕ, ◌+◌, ◌<◌, ◌≤◌, Bool, true, false, ◌||◌, ◌⊎◌, Some, None, Option, ◌≢◌, refl}
-use Rattle.std.proofs.Common.{sym, ◌∙◌, ap, subst, inl, inr, ⊎_elim, arith}
+use Rattle.std.specs.Prelude.{◌≡◌, ℕ, ◌<◌, ◌≤◌, Bool, true, false, ◌||◌, ◌⊎◌, Some, None, Option, ◌≢◌, refl}
+use Rattle.std.proofs.Common.{sym, subst, inl, inr, ⊎_elim, arith}
 use Rattle.std.specs.Bool.{beq}
 use Rattle.pieces.specs.Ticks.{Before, Later, sooner}
 use Rattle.grades.specs.Kinds.{Tells}

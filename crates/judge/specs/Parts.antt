@@ -1,5 +1,5 @@
 -- Ticks that are reached from other ticks, part by part. Assumes nothing.
-use Rattle.std.specs.Prelude.{◌≡◌, ℕ, zero, suc, ◌+◌, ◌-◌, ◌<◌, ◌≤◌, Bool, true, false, ◌||◌, Option}
+use Rattle.std.specs.Prelude.{◌≡◌, ℕ, zero, suc, ◌<◌, ◌≤◌, Bool, true, false, ◌||◌, Option}
 use Rattle.judge.specs.Yes.{Known}
 
 -- f holds at some tick below n

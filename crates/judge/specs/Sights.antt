@@ -1,13 +1,11 @@
 -- What is seen from a stretch.
-use Rattle.std.specs.Prelude.{◌≡◌, ℕ, zero, suc, ◌+◌, ◌-◌, ◌<◌, ◌≤◌, min, max, Bool, true, false, not, ◌&&◌, ◌||◌, ◌⊎◌, Some, None, Option, nat_le, refl}
-use Rattle.std.proofs.Common.{sym, ◌∙◌, ap, subst, inl, inr, ⊎_elim, arith}
-use borrow.Author.Tests.{clash, leb-true, le-leb, both_ways}
+use Rattle.std.specs.Prelude.{◌≡◌, ℕ, suc, ◌+◌, ◌-◌, ◌<◌, ◌≤◌, min, max, Bool, true, false, ◌&&◌, ◌⊎◌, nat_le, refl}
+use Rattle.std.proofs.Common.{sym, ◌∙◌, inl, inr, ⊎_elim, arith}
+use borrow.Author.Tests.{leb-true, le-leb, both_ways}
 use Rattle.std.proofs.lemmas.Bool.{and_parts, and_from, not-true, not_from_false, cases_Bool, cases_lt}
-use Rattle.grades.specs.Kinds.{Tells}
-use Rattle.judge.specs.Yes.{Known, Within}
+use Rattle.judge.specs.Yes.{Within}
 use Rattle.judge.specs.Parts.{any, Between}
-use Rattle.judge.specs.Reaches.{Alive, Sees, clear, sees, Stretched, Holds, holds, Back}
-use Rattle.judge.specs.Knowns.{known_map, known_none}
+use Rattle.judge.specs.Reaches.{Sees, clear, sees, Stretched, Holds, holds, Back}
 use Rattle.judge.specs.Anys.{any_from, any_some}
 
 module _ (dead : ℕ → Bool) where

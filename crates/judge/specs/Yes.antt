@@ -1,5 +1,5 @@
 -- What is known of a fact about ticks. Assumes nothing.
-use Rattle.std.specs.Prelude.{◌≡◌, ℕ, ◌+◌, ◌<◌, ◌≤◌, min, Bool, true, false, Some, None, Option, ◌≢◌}
+use Rattle.std.specs.Prelude.{◌≡◌, ℕ, ◌<◌, ◌≤◌, min, Bool, Some, None, Option, ◌≢◌}
 use Rattle.grades.specs.Kinds.{Tells}
 use Rattle.pieces.specs.Ticks.{Before, Later}
 

@@ -1,5 +1,5 @@
 // The marks of all rows of tests, in the order of rows.
-ghost use Rattle.std.specs.Prelude.{◌≡◌, ℕ, ◌+◌, ◌-◌, ◌<◌, ◌≤◌, Bool, true, false, length};
+ghost use Rattle.std.specs.Prelude.{◌≡◌, ℕ, Bool};
 ghost use Rattle.judge.specs.Marks.{MarkedRow, MarkedRows};
 
 use meaning::mark::Mark;

@@ -1,8 +1,7 @@
 // Where a row's child is wanted, at one tick and up to the next change.
-ghost use Rattle.std.specs.Prelude.{◌≡◌, ℕ, ◌≤◌};
 ghost use Rattle.pieces.specs.Ticks.{Steady};
 ghost use Rattle.judge.specs.Parts.{any};
-ghost use Rattle.judge.specs.Reaches.{sees as sight, holds as long-sight};
+ghost use Rattle.judge.specs.Reaches.{sees as sight, holds as long_sight};
 
 use crate::left::Left;
 use crate::parts::Gathered;
@@ -33,7 +32,7 @@ pub(crate) fn left_at<A: YesNo + Drop, B: YesNo + Drop, C: YesNo + Drop>(
     window: Window,
     t: u32,
 ) -> (bool, Option<u32>)
-    ensures { Steady (λ u. any (λ s. long-sight (A.YesNo.f asks) (B.YesNo.f dead) (C.YesNo.f need) window.from window.to s u) window.limit) t result.0 result.1 }
+    ensures { Steady (λ u. any (λ s. long_sight (A.YesNo.f asks) (B.YesNo.f dead) (C.YesNo.f need) window.from window.to s u) window.limit) t result.0 result.1 }
 {
     let all = Gathered {
         of: Left {

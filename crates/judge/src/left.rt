@@ -1,5 +1,4 @@
 // Where the left child of an until is wanted.
-ghost use Rattle.std.specs.Prelude.{◌≡◌, ℕ, ◌+◌, ◌-◌, ◌<◌, ◌≤◌, Bool, true, false};
 ghost use Rattle.judge.specs.Yes.{Known};
 ghost use Rattle.judge.specs.Reaches.{holds as sight, Back};
 ghost use Rattle.std.proofs.Common.{arith};

@@ -1,5 +1,5 @@
 // A signal that is gathered from parts of the ticks.
-ghost use Rattle.std.specs.Prelude.{◌≡◌, ℕ, ◌+◌, ◌-◌, ◌<◌, ◌≤◌, Bool, true, false};
+ghost use Rattle.std.specs.Prelude.{◌≡◌, ℕ, ◌+◌, ◌<◌, ◌≤◌, Bool, true};
 ghost use Rattle.pieces.specs.Ticks.{Before};
 ghost use Rattle.judge.specs.Parts.{any, Parted};
 

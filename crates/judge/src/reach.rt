@@ -1,5 +1,5 @@
 // Where a child is wanted, from where its parent is wanted and not settled.
-ghost use Rattle.std.specs.Prelude.{◌≡◌, ℕ, ◌+◌, ◌-◌, ◌<◌, ◌≤◌, Bool, true, false};
+ghost use Rattle.std.specs.Prelude.{◌<◌};
 ghost use Rattle.judge.specs.Reaches.{Stretched};
 
 use crate::window::Window;

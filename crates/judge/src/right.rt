@@ -1,5 +1,4 @@
 // Where the child of a window, or the right child of an until, is wanted.
-ghost use Rattle.std.specs.Prelude.{◌≡◌, ℕ, ◌+◌, ◌-◌, ◌<◌, ◌≤◌};
 ghost use Rattle.judge.specs.Reaches.{sees as sight};
 ghost use Rattle.std.proofs.Common.{arith};
 ghost use Rattle.judge.specs.Sights.{sees_is};

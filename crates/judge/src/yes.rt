@@ -1,5 +1,5 @@
 // Yes and no as a kind of value, and small steps on what is known of a fact from a tick on.
-ghost use Rattle.std.specs.Prelude.{◌≡◌, ℕ, ◌+◌, ◌-◌, ◌<◌, ◌≤◌, Bool, true, false, ◌||◌};
+ghost use Rattle.std.specs.Prelude.{◌≡◌, ◌≤◌, true, ◌||◌};
 ghost use Rattle.pieces.specs.Ticks.{sooner};
 ghost use Rattle.judge.specs.Yes.{Known, First, clip, Within};
 

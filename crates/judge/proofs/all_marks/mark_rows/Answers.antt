@@ -1,12 +1,10 @@
-use Rattle.std.proofs.Common.{◌≡◌, ℕ, ◌+◌, ◌<◌, ◌≤◌, Bool, true, false, List, ◌++◌, length, sym, refl, ap, ◌∙◌, subst, arith, length-append}
+use Rattle.std.proofs.Common.{◌≡◌, ℕ, ◌+◌, true, List, ◌++◌, length, sym, refl, ◌∙◌, subst, arith, length-append}
 use Rattle.meaning.specs.declared.mark.Mark.{Mark}
 use borrow.Author.Tests.{both_ways}
 use Rattle.pieces.specs.Cells.{Put}
-use Rattle.judge.specs.Marks.{OfRows}
 use Rattle.judge.proofs.RowMarks.{put_append, rows_more, rows_skip}
-use Rattle.judge.proofs.all_marks.mark_rows.Given as given
 use Rattle.judge.proofs.all_marks.mark_rows.Goals as goal
-use Rattle.judge.proofs.all_marks.mark_rows.Goals.{then-is-test+in-Ok, else-is-test}
+use Rattle.judge.proofs.all_marks.mark_rows.Goals.{then-is_test+in-Ok, else-is_test}
 
 -- where the marks so far end
 placed : (before mid after : List Mark) (used : ℕ) (ms ns : List Mark) → used ≡ length ms → Put before 0 ms mid → Put mid used ns after → Put before 0 (ms ++ ns) after
@@ -22,8 +20,8 @@ returns-in-Err g c =
       i.0 ++ h.0,
       (
         omega (arith, length-append i.0 h.0, h.1.0, i.1.0, kept),
-        placed c.args.marks.now c.loop-row.marks c.mark-into.new.marks c.loop-row.used i.0 h.0 i.1.0 i.1.1 h.1.1,
-        (c.loop-row.row, (i.0, (h.0, (omega (arith, c.loop-row-test.true, c.count-count.ensures), refl, i.1.2, sym c.if-is-test.ensures, h.1.2)))),
+        placed c.args.marks.now c.loop-row.marks c.mark_into.new.marks c.loop-row.used i.0 h.0 i.1.0 i.1.1 h.1.1,
+        (c.loop-row.row, (i.0, (h.0, (omega (arith, c.loop-row-test.true, c.count-count.ensures), refl, i.1.2, sym c.if-is_test.ensures, h.1.2)))),
       ),
     )
 
@@ -36,23 +34,23 @@ loop-row-preserved g c =
     let row = c.loop-row.row in
     let i = c.loop-row.invariant in
     let first = c.args.marks.now in
-    elim c.if-is-test.branch [
-      | then-is-test+in-Ok w ↦
+    elim c.if-is_test.branch [
+      | then-is_test+in-Ok w ↦
           let h = w.in-Ok.ensures in
-          let yes : tests row ≡ true = sym w.if-is-test.ensures in (
+          let yes : tests row ≡ true = sym w.if-is_test.ensures in (
             i.0 ++ h.0,
             (
               omega (arith, length-append i.0 h.0, w.used-is, h.1.0, i.1.0),
-              subst (λ ms. Put first 0 (i.0 ++ h.0) ms) (sym w.marks-is) (placed first c.loop-row.marks w.mark-into.new.marks c.loop-row.used i.0 h.0 i.1.0 i.1.1 h.1.1),
+              subst (λ ms. Put first 0 (i.0 ++ h.0) ms) (sym w.marks-is) (placed first c.loop-row.marks w.mark_into.new.marks c.loop-row.used i.0 h.0 i.1.0 i.1.1 h.1.1),
               rows_more tests asks limit row i.0 h.0 i.1.2 (λ _. h.1.2, λ n. absurd (both_ways (tests row) n yes)),
             ),
           )
-      | else-is-test w ↦ (
+      | else-is_test w ↦ (
         i.0,
         (
           w.used-is ∙ i.1.0,
           subst (λ ms. Put first 0 i.0 ms) (sym w.marks-is) i.1.1,
-          rows_skip tests asks limit row i.0 i.1.2 (sym w.if-is-test.ensures),
+          rows_skip tests asks limit row i.0 i.1.2 (sym w.if-is_test.ensures),
         ),
       )
     ]

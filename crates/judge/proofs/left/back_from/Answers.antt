@@ -1,4 +1,4 @@
-use Rattle.std.proofs.Common.{◌≡◌, ℕ, ◌-◌, ◌<◌, ◌≤◌, max, Bool, true, ◌||◌, ◌⊎◌, sym, refl, ap, ◌∙◌, subst, arith}
+use Rattle.std.proofs.Common.{◌≡◌, ℕ, ◌-◌, ◌<◌, ◌≤◌, max, true, ◌||◌, sym, subst, arith}
 use Rattle.pieces.specs.Ticks.{sooner}
 use Rattle.judge.specs.Yes.{Known, Within, clip}
 use Rattle.judge.specs.Reaches.{Back}
@@ -25,12 +25,12 @@ loop-c-preserved g c =
     let le : d ≤ e = subst (λ n. n ≤ e) (sym is) (clip_most o e) in
     let same : (k : ℕ) → at ≤ k → k < d → y ≡ f k = λ k l m. st.1 k l (clip_before o e k (subst (λ n. k < n) is m)) in
     let lo : c.max.result ≡ max p (at - b) = omega arith in
-    let part : Known (λ w. (y ≡ true) × Within (max p (at - b)) d w) u c.span-if-also.result.0 c.span-if-also.result.1 =
-    subst (λ n. Known (λ w. (y ≡ true) × Within n d w) u c.span-if-also.result.0 c.span-if-also.result.1) lo c.span-if-also.ensures in
+    let part : Known (λ w. (y ≡ true) × Within (max p (at - b)) d w) u c.span_if-also.result.0 c.span_if-also.result.1 =
+    subst (λ n. Known (λ w. (y ≡ true) × Within n d w) u c.span_if-also.result.0 c.span_if-also.result.1) lo c.span_if-also.ensures in
     let b0 = c.loop-c.known.0 in
     let o0 = c.loop-c.known.1 in
-    let b1 = c.span-if-also.result.0 in
-    let o1 = c.span-if-also.result.1 in
+    let b1 = c.span_if-also.result.0 in
+    let o1 = c.span_if-also.result.1 in
     let k = known_map u (b0 || b1) (sooner o0 o1) (λ w. back_more f p b s at d w y i.0 lt same) (λ w. back_less f p b s at d w y i.0 lt same)
     (known_or (Back f p b s at) (λ w. (y ≡ true) × Within (max p (at - b)) d w) u b0 b1 o0 o1 i.2 part) in (
       omega (arith, i.0),

@@ -1,8 +1,7 @@
-use Rattle.std.proofs.Common.{◌≡◌, Bool, true, false, subst}
+use Rattle.std.proofs.Common.{subst}
 use Rattle.judge.specs.Reaches.{Stretched}
 use Rattle.judge.specs.Knowns.{known_map, known_none}
 use Rattle.judge.specs.Sights.{shut_none, span_seen, seen_span}
-use Rattle.judge.proofs.right.RightParts.part.Given as given
 use Rattle.judge.proofs.right.RightParts.part.Goals as goal
 
 pub returns-then-s : goal.returns-then-s
@@ -11,8 +10,8 @@ returns-then-s g c =
     let asks = g.A.YesNo.f me.asks in
     let dead = g.B.YesNo.f me.dead in
     let w = me.window in
-    let r = c.stretch-at-s.result in
-    let st = subst (λ b. Stretched asks dead w.limit w.to c.args.p b r.after r.end) c.if-s.true c.stretch-at-s.ensures in
+    let r = c.stretch_at-s.result in
+    let st = subst (λ b. Stretched asks dead w.limit w.to c.args.p b r.after r.end) c.if-s.true c.stretch_at-s.ensures in
     record {
       later = st.later;
       within = st.within;
@@ -28,8 +27,8 @@ returns-else-s g c =
     let asks = g.A.YesNo.f me.asks in
     let dead = g.B.YesNo.f me.dead in
     let w = me.window in
-    let r = c.stretch-at-s.result in
-    let st = subst (λ b. Stretched asks dead w.limit w.to c.args.p b r.after r.end) c.if-s.false c.stretch-at-s.ensures in
+    let r = c.stretch_at-s.result in
+    let st = subst (λ b. Stretched asks dead w.limit w.to c.args.p b r.after r.end) c.if-s.false c.stretch_at-s.ensures in
     record {
       later = st.later;
       within = st.within;
