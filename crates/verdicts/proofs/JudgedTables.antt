@@ -1,5 +1,5 @@
 -- From a judged table to the answer of the call: the first condition that fails, the verdict, and the cells.
-use Rattle.std.proofs.Common.{◌≡◌, ℕ, List, [], length, Some, None, Ok, Err, Option, Result, refl, inl, inr}
+use Rattle.std.proofs.Common.{ℕ, List, [], length, Some, None, Ok, Err, Option, refl, inl, inr}
 use Rattle.grades.specs.Kinds.{Kind}
 use Rattle.grades.specs.Worth.{worth}
 use Rattle.grades.specs.declared.range.Range.{Range}

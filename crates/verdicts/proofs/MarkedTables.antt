@@ -1,7 +1,6 @@
 -- From a judged and marked table to the answer of the call: the first condition that fails, the marks, and the cells.
-use Rattle.std.proofs.Common.{◌≡◌, ℕ, ◌≤◌, Bool, List, [], length, take, Some, None, Ok, Err, sym, refl, ap, ◌∙◌, subst, inl, inr, arith}
+use Rattle.std.proofs.Common.{◌≡◌, ℕ, ◌≤◌, Bool, List, length, take, Some, None, Ok, Err, sym, refl, ap, ◌∙◌, subst, inl, inr, arith}
 use Rattle.grades.specs.Kinds.{Kind, Lawful}
-use Rattle.grades.specs.Worth.{worth}
 use Rattle.grades.specs.declared.range.Range.{Range}
 use Rattle.pieces.specs.declared.piece.Piece.{Piece}
 use Rattle.rules.specs.declared.row.Row.{Row}
@@ -10,18 +9,15 @@ use Rattle.meaning.specs.declared.mark.Mark.{Mark}
 use Rattle.meaning.specs.Marks.{Marked, Marks}
 use Rattle.meaning.proofs.Pinned.{lists_same}
 use Rattle.runs.specs.States.{State, readings_of}
-use Rattle.runs.specs.Conditions.{FirstFailing}
-use Rattle.runs.specs.Calls.{all, WantLists, mark_asks, judge_asks, MarkTurn}
+use Rattle.runs.specs.Calls.{all, WantLists, mark_asks, MarkTurn}
 use Rattle.runs.proofs.WantedLists.{one_want_lists}
 use Rattle.verdicts.specs.declared.fault.JudgeFault.{JudgeFault}
 use Rattle.verdicts.specs.declared.fault.MarkFault.{MarkFault}
 use Rattle.verdicts.specs.declared.fault.MarkFault.TheVariants.{Judging, WantCells, MarkCells}
 use Rattle.verdicts.specs.declared.judgement.Judgement.{Judgement}
-use Rattle.verdicts.specs.declared.marking.Marking.{Marking}
-use Rattle.verdicts.specs.Judges.{Complete, BeginAt}
 use Rattle.verdicts.specs.Markings.{RangesStand}
 use Rattle.verdicts.specs.Answers.{JudgedTable, MarkedTable, mark_reply, MarkedCells}
-use Rattle.verdicts.proofs.JudgedTables.{refused_first, judged_first, refused_cells}
+use Rattle.verdicts.proofs.JudgedTables.{refused_first, judged_first}
 
 module _ {K : Kind} (L : Lawful K) {G : Type 0} (val : G → K.Value) (s : State) (rows : List Row) (sound : Sound rows) (tick : ℕ) (cells cells' : List (Piece (Range G))) (wants wants' : List (Piece Bool)) (marks marks' : List Mark) where
   -- all want lists fit if the written ones do

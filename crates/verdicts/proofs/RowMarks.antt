@@ -1,9 +1,9 @@
 -- The marks of one row after those of the rows before it, and the loop over all rows.
-use Rattle.std.proofs.Common.{◌≡◌, ℕ, zero, suc, ◌+◌, ◌<◌, ◌≤◌, Bool, true, false, List, [], ◌∷◌, ◌++◌, length, take, drop, ℤ, Ok, Err, Result, sym, refl, ap, ◌∙◌, subst, append_assoc, add-one, arith, length-append}
+use Rattle.std.proofs.Common.{◌≡◌, ℕ, ◌+◌, ◌<◌, Bool, true, false, List, [], ◌++◌, length, take, drop, ℤ, Ok, Err, Result, sym, refl, ap, ◌∙◌, subst, append_assoc, add-one, arith, length-append}
 use borrow.Author.Tests.{both_ways}
 use Rattle.std.proofs.lemmas.List.{drop-drop, append-nil}
 use Rattle.pieces.specs.Cells.{Put}
-use Rattle.verdicts.specs.Marks.{Stretches, OfRow, OfRows, MarkedRow, MarkedTest, MarkedRows}
+use Rattle.verdicts.specs.Marks.{OfRow, OfRows, MarkedRow, MarkedTest, MarkedRows}
 use Rattle.verdicts.specs.Children.{is_test}
 use Rattle.rules.specs.declared.row.Side.{Side}
 use Rattle.rules.specs.declared.row.Row.{Row}

@@ -15,8 +15,8 @@ use Rattle.meaning.specs.Verdicts.{ranges}
 use Rattle.meaning.specs.Wants.{Wanted}
 use Rattle.meaning.specs.Marks.{Tests, Lists, Marked, Marks}
 use Rattle.meaning.proofs.Wanting.{wanted_below}
-use Rattle.meaning.proofs.Stretches.{Next as Chain-next, Chain, has_chain}
-use Rattle.meaning.proofs.Lists.{Upto as Rows-below, lists_as, lists_none, lists_more}
+use Rattle.meaning.proofs.Stretches.{Next as ChainNext, Chain, has_chain}
+use Rattle.meaning.proofs.Lists.{Upto as RowsBelow, lists_as, lists_none, lists_more}
 use Rattle.verdicts.specs.Children.{is_test}
 use Rattle.verdicts.specs.Marks.{Next, Upto, Stretches, SomeStretches, OfRow, OfRows, SomeOfRows}
 use Rattle.verdicts.proofs.Knowns.{tells_map}
@@ -48,7 +48,7 @@ module _ (P : ℕ → Type 0) (f : ℕ → Bool) (limit row : ℕ) (told : (u : 
   decided : (u : ℕ) → Dec (P u)
   decided u = ⊎_elim (λ (e : f u ≡ true). yes (tells_yes (P u) (f u) (told u) e)) (λ (e : f u ≡ false). no (λ p. both_ways (f u) e (said_yes u p))) (cases_Bool (f u))
 
-  next_chained : (s : ℕ) (m : Mark) → Next f limit row s m → Chain-next P row s m
+  next_chained : (s : ℕ) (m : Mark) → Next f limit row s m → ChainNext P row s m
   next_chained s m n = record {
     of_row = n.of_row;
     from = n.from;
@@ -84,14 +84,14 @@ module _ (P : ℕ → Type 0) (f : ℕ → Bool) (limit row : ℕ) (told : (u : 
       (c.0, (some_in e c.0 c.1 t.0 t.1.0 t.1.2, upto_chained 0 e ms c.0 h.1.0 c.1))
 
 -- asks says where each row is wanted and not settled, which is below the limit
-module _ (K : Kind) (rows : List Row) (sound : Sound rows) (x : Readings) (asked-at limit : ℕ) (asks : ℕ → ℕ → Bool)
-    (told : (k u : ℕ) → k < length rows → Tells (asks k u) (Wanted K rows (value (ranges K) rows x) asked-at k u × ¬ (Settled K (value (ranges K) rows x k u))))
+module _ (K : Kind) (rows : List Row) (sound : Sound rows) (x : Readings) (asked_at limit : ℕ) (asks : ℕ → ℕ → Bool)
+    (told : (k u : ℕ) → k < length rows → Tells (asks k u) (Wanted K rows (value (ranges K) rows x) asked_at k u × ¬ (Settled K (value (ranges K) rows x k u))))
     (near : (k u : ℕ) → k < length rows → asks k u ≡ true → u < limit) where
   abbrev tests : ℕ → Bool
   tests r = is_test (row_at rows r)
 
   abbrev P : ℕ → ℕ → Type 0
-  P = Marked K rows x asked-at
+  P = Marked K rows x asked_at
 
   marked_told : (k : ℕ) → k < length rows → tests k ≡ true → (u : ℕ) → Tells (asks k u) (P k u)
   marked_told k below e u =
@@ -113,30 +113,30 @@ module _ (K : Kind) (rows : List Row) (sound : Sound rows) (x : Readings) (asked
       (λ (e : tests n ≡ false). ([], λ u l p. no_marks n e u p))
       (cases_Bool (tests n))
 
-  rows_list : (n : ℕ) → n ≤ length rows → (ms : List Mark) → OfRows tests asks (λ r. limit) n ms → Lists (Rows-below P n) ms
-  rows_list zero le ms h = subst (λ zs. Lists (Rows-below P 0) zs) (sym h) (lists_none P)
+  rows_list : (n : ℕ) → n ≤ length rows → (ms : List Mark) → OfRows tests asks (λ r. limit) n ms → Lists (RowsBelow P n) ms
+  rows_list zero le ms h = subst (λ zs. Lists (RowsBelow P 0) zs) (sym h) (lists_none P)
   rows_list (suc n) le ms h =
       let xs = h.0 in
       let ys = h.1.0 in
       let i = h.1.1 in
-      subst (λ zs. Lists (Rows-below P (suc n)) zs) (sym i.0) (lists_more P n xs ys (rows_list n (omega arith) xs i.1) (row_chain n (omega arith) ys i.2))
+      subst (λ zs. Lists (RowsBelow P (suc n)) zs) (sym i.0) (lists_more P n xs ys (rows_list n (omega arith) xs i.1) (row_chain n (omega arith) ys i.2))
 
-  rows_on : (d n : ℕ) → n + d ≡ length rows → (ms : List Mark) → Lists (Rows-below P n) ms → (more : List Mark) × Lists (Rows-below P (length rows)) (ms ++ more)
+  rows_on : (d n : ℕ) → n + d ≡ length rows → (ms : List Mark) → Lists (RowsBelow P n) ms → (more : List Mark) × Lists (RowsBelow P (length rows)) (ms ++ more)
   rows_on zero n e ms h =
       let is : n ≡ length rows = omega arith in
-      ([], subst (λ zs. Lists (Rows-below P (length rows)) zs) (sym (append-nil ms)) (subst (λ j. Lists (Rows-below P j) ms) is h))
+      ([], subst (λ zs. Lists (RowsBelow P (length rows)) zs) (sym (append-nil ms)) (subst (λ j. Lists (RowsBelow P j) ms) is h))
   rows_on (suc d) n e ms h =
       let c = row_there n (omega arith) in
       let r = rows_on d (suc n) (omega arith) (ms ++ c.0) (lists_more P n ms c.0 h c.1) in
-      (c.0 ++ r.0, subst (λ zs. Lists (Rows-below P (length rows)) zs) (append_assoc ms c.0 r.0) r.1)
+      (c.0 ++ r.0, subst (λ zs. Lists (RowsBelow P (length rows)) zs) (append_assoc ms c.0 r.0) r.1)
 
-  all_rows : (ms : List Mark) → Lists (Rows-below P (length rows)) ms → Marks K rows x asked-at ms
-  all_rows ms h = lists_as (λ k u p. p.1) (λ k u p. (wanted_below K sound (value (ranges K) rows x) asked-at k u p.wanted, p)) ms h
+  all_rows : (ms : List Mark) → Lists (RowsBelow P (length rows)) ms → Marks K rows x asked_at ms
+  all_rows ms h = lists_as (λ k u p. p.1) (λ k u p. (wanted_below K sound (value (ranges K) rows x) asked_at k u p.wanted, p)) ms h
 
-  pub marks_whole : (ms : List Mark) → OfRows (λ r. is_test (row_at rows r)) asks (λ r. limit) (length rows) ms → Marks K rows x asked-at ms
+  pub marks_whole : (ms : List Mark) → OfRows (λ r. is_test (row_at rows r)) asks (λ r. limit) (length rows) ms → Marks K rows x asked_at ms
   marks_whole ms h = all_rows ms (rows_list (length rows) (omega arith) ms h)
 
-  pub marks_begun : (ms : List Mark) → SomeOfRows (λ r. is_test (row_at rows r)) asks (λ r. limit) (length rows) ms → (more : List Mark) × ((0 < length more) × Marks K rows x asked-at (ms ++ more))
+  pub marks_begun : (ms : List Mark) → SomeOfRows (λ r. is_test (row_at rows r)) asks (λ r. limit) (length rows) ms → (more : List Mark) × ((0 < length more) × Marks K rows x asked_at (ms ++ more))
   marks_begun ms h =
       let r = h.0 in
       let xs = h.1.0 in
@@ -146,4 +146,4 @@ module _ (K : Kind) (rows : List Row) (sound : Sound rows) (x : Readings) (asked
       let zs = z.0 in
       let l = rows_on (length rows - suc r) (suc r) (omega (arith, i.0)) (xs ++ (ys ++ zs)) (lists_more P r xs (ys ++ zs) (rows_list r (omega (arith, i.0)) xs i.2) z.1.1) in
       let is : (xs ++ (ys ++ zs)) ++ l.0 ≡ ms ++ (zs ++ l.0) = ap (λ q. q ++ l.0) (sym (append_assoc xs ys zs)) ∙ append_assoc (xs ++ ys) zs l.0 ∙ ap (λ q. q ++ (zs ++ l.0)) (sym i.1) in
-      (zs ++ l.0, (omega (arith, length-append zs l.0, z.1.0), subst (λ q. Marks K rows x asked-at q) is (all_rows ((xs ++ (ys ++ zs)) ++ l.0) l.1)))
+      (zs ++ l.0, (omega (arith, length-append zs l.0, z.1.0), subst (λ q. Marks K rows x asked_at q) is (all_rows ((xs ++ (ys ++ zs)) ++ l.0) l.1)))

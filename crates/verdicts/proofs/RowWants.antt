@@ -1,5 +1,5 @@
 -- What the want lists that are written say is where the rows are wanted.
-use Rattle.std.proofs.Common.{◌≡◌, ℕ, pred, ◌+◌, ◌-◌, ◌<◌, ◌≤◌, Bool, true, false, not, ◌&&◌, eqb, List, length, sym, refl, ap, ◌∙◌, subst, arith, eq-eqb, eqb-true}
+use Rattle.std.proofs.Common.{◌≡◌, ℕ, pred, ◌+◌, ◌-◌, ◌<◌, ◌≤◌, Bool, true, false, not, ◌&&◌, eqb, List, length, sym, ap, ◌∙◌, subst, arith, eq-eqb, eqb-true}
 use native.Mathlib.Nat.{sub-zero}
 use Rattle.grades.specs.Kinds.{Kind, Tells}
 use Rattle.grades.specs.Ranges.{Span, Settled}
@@ -15,11 +15,11 @@ use Rattle.meaning.proofs.Wanting.{root_wanted}
 use Rattle.meaning.proofs.Bounded.{wanted_near}
 use Rattle.runs.specs.Calls.{TellsWanted}
 use Rattle.verdicts.specs.declared.trial.Trial.{Trial}
-use Rattle.verdicts.specs.declared.trial.Trial.TheVariants.{Loose, Lowest as Only-lowest, Higher}
+use Rattle.verdicts.specs.declared.trial.Trial.TheVariants.{Loose, Lowest as OnlyLowest, Higher}
 use Rattle.verdicts.specs.Trials.{told, tried, asked}
-use Rattle.verdicts.specs.Places.{list_at, Stands, Ready}
-use Rattle.verdicts.specs.Children.{said, row_says, passed_on, Askable}
-use Rattle.verdicts.specs.Markings.{only_at, RangesStand, WantsKnown}
+use Rattle.verdicts.specs.Places.{list_at, Stands}
+use Rattle.verdicts.specs.Children.{row_says, passed_on, Askable}
+use Rattle.verdicts.specs.Markings.{only_at, RangesStand}
 use Rattle.verdicts.proofs.Anys.{tells_yes, tells_from}
 use Rattle.verdicts.proofs.Standing.{row_stands, row_told}
 use Rattle.verdicts.proofs.RowReaches.{far_near}
@@ -79,9 +79,9 @@ module _ (K : Kind) {G : Type 0} (val : G → K.Value) (rows : List Row) (sound 
       pub child_right : (c : ℕ) → Child (row_at rows k) c → (want : ℕ → Bool) → TellsWanted K rows x tick k want → TellsWanted K rows x tick c (passed_on K val begins cells row k c limit want)
       child_right c child want h =
           subst (λ r. TellsWanted K rows x tick c (passed_on K val begins cells r k c limit want)) (sym at)
-          (child_tells K rows sound v tick k c limit (asked want (row_says K val begins cells Loose k)) (row_says K val begins cells Only-lowest) (row_says K val begins cells Higher) lt child
+          (child_tells K rows sound v tick k c limit (asked want (row_says K val begins cells Loose k)) (row_says K val begins cells OnlyLowest) (row_says K val begins cells Higher) lt child
           (asks_tell want k lt h) (asks_near limit is want k lt h)
-          (λ j t ch. let e = sound.earlier k j lt ch in tried_is (Lowest K) Only-lowest (λ p. told_is (K.same p.high K.lowest)) j (omega arith) t)
+          (λ j t ch. let e = sound.earlier k j lt ch in tried_is (Lowest K) OnlyLowest (λ p. told_is (K.same p.high K.lowest)) j (omega arith) t)
           (λ j t ch. let e = sound.earlier k j lt ch in tried_is (λ p. ¬ (Lowest K p)) Higher (λ p. told_not (K.same p.high K.lowest)) j (omega arith) t))
 
   -- the row that has i rows behind it is the child c of the row k

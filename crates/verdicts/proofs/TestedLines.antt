@@ -1,5 +1,5 @@
 -- Which lines a table of rows tests, and what a job reads on a line that it lacks.
-use Rattle.std.proofs.Common.{◌≡◌, ℕ, ◌+◌, ◌<◌, ◌≤◌, leb, List, [], length, get_or, ℤ, sym, refl, ap, subst, ⊎_elim, arith, le-leb, leb-true}
+use Rattle.std.proofs.Common.{◌≡◌, ℕ, ◌+◌, ◌<◌, ◌≤◌, leb, List, [], length, ℤ, sym, refl, ap, subst, ⊎_elim, arith, le-leb, leb-true}
 use Rattle.std.proofs.lemmas.List.{get_or_past}
 use Rattle.std.proofs.lemmas.Bool.{cases_lt}
 use Rattle.grades.specs.Kinds.{Tells}
@@ -7,7 +7,6 @@ use Rattle.rules.specs.declared.row.Side.{Side}
 use Rattle.rules.specs.declared.row.Row.{Row}
 use Rattle.rules.specs.declared.row.Row.TheVariants.{Test, Not, And, Or, Eventually, Always, Until}
 use Rattle.rules.specs.Rows.{row_at}
-use Rattle.meaning.specs.declared.reading.Reading.{Reading}
 use Rattle.meaning.specs.Readings.{widest}
 use Rattle.meaning.specs.Marks.{Tests}
 use Rattle.runs.specs.States.{State, reading_at, readings_of}

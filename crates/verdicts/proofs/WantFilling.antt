@@ -1,5 +1,5 @@
 -- The loop over the want lists: those of the last rows stand in the cells, and the next row's list comes behind them or does not fit.
-use Rattle.std.proofs.Common.{◌≡◌, ℕ, ◌+◌, ◌-◌, ◌<◌, ◌≤◌, Bool, false, List, [], length, get_or, take, drop, set, Ok, Err, Result, sym, refl, ap, ◌∙◌, subst, arith}
+use Rattle.std.proofs.Common.{◌≡◌, ℕ, ◌+◌, ◌-◌, ◌<◌, Bool, false, List, length, get_or, take, drop, set, Ok, Err, sym, ap, ◌∙◌, subst, arith}
 use mathlib.Core.Path.{fun_ext}
 use Rattle.std.proofs.lemmas.List.{map-id}
 use Rattle.grades.specs.Kinds.{Kind, Lawful, Tells}
@@ -12,12 +12,11 @@ use Rattle.meaning.specs.Readings.{Readings}
 use Rattle.meaning.specs.Values.{value}
 use Rattle.meaning.specs.Verdicts.{ranges}
 use Rattle.meaning.specs.Wants.{Wanted}
-use Rattle.runs.specs.Calls.{all, TellsWanted, WantLists}
+use Rattle.runs.specs.Calls.{all, TellsWanted}
 use Rattle.runs.proofs.WantedLists.{wants_by, wants_by_tell, wants_listed, listed_wants, told_same}
 use Rattle.verdicts.specs.Places.{list_at}
 use Rattle.verdicts.specs.Children.{said}
-use Rattle.verdicts.specs.Judges.{BeginAt}
-use Rattle.verdicts.specs.Markings.{BeginsWith, RunsOut, WantsKnown, WantWritten, WantsWritten}
+use Rattle.verdicts.specs.Markings.{WantsKnown, WantWritten, WantsWritten}
 use Rattle.verdicts.proofs.Stacks.{below_lies, below_heard}
 use Rattle.verdicts.proofs.Fills.{Filled, filled_none, filled_next, filled_out}
 

@@ -1,8 +1,8 @@
 -- Where a child is wanted, from lists that are looked up.
-use Rattle.std.proofs.Common.{◌≡◌, ℕ, ◌≤◌, Bool, true, false, cond, ◌&&◌, eqb, leb, List, [], ◌∷◌, Option, sym, ap, ◌∙◌, subst, arith, eq-eqb, le-leb}
+use Rattle.std.proofs.Common.{◌≡◌, ℕ, Bool, true, false, cond, ◌&&◌, eqb, leb, List, [], ◌∷◌, Option, sym, ap, ◌∙◌, subst, arith, le-leb}
 use borrow.Author.Tests.{clash}
 use Rattle.grades.specs.Kinds.{Kind}
-use Rattle.grades.specs.Ranges.{Span, spans}
+use Rattle.grades.specs.Ranges.{spans}
 use Rattle.grades.specs.Worth.{worth}
 use Rattle.grades.specs.declared.range.Range.{Range}
 use Rattle.rules.specs.declared.row.Row.{Row}
@@ -18,7 +18,7 @@ use Rattle.verdicts.specs.declared.trial.Trial.TheVariants.{Loose, Lowest, Highe
 use Rattle.verdicts.specs.Yes.{any}
 use Rattle.verdicts.specs.Reaches.{sees, holds}
 use Rattle.verdicts.specs.Signals.{heard}
-use Rattle.verdicts.specs.Places.{list_at, told}
+use Rattle.verdicts.specs.Places.{list_at}
 use Rattle.verdicts.specs.Trials.{tried, range_says, asked}
 use Rattle.verdicts.specs.Children.{child_says, said, row_says, asks_at, passed_on}
 

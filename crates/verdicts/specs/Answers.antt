@@ -19,7 +19,7 @@ use Rattle.verdicts.specs.declared.judgement.Judgement.{Judgement}
 use Rattle.verdicts.specs.declared.marking.Marking.{Marking}
 use Rattle.verdicts.specs.Faults.{judge_number, mark_number}
 use Rattle.verdicts.specs.Judges.{BeginAt, Complete, CutShort}
-use Rattle.verdicts.specs.Markings.{BeginsWith, WantsWritten, MarksWritten}
+use Rattle.verdicts.specs.Markings.{WantsWritten, MarksWritten}
 
 module _ (K : Kind) {G : Type 0} (value : G → K.Value) where
   -- the reply as a run of calls has it

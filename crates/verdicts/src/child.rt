@@ -5,7 +5,7 @@
 ghost use Rattle.std.specs.Prelude.{◌≡◌, ◌-◌, ◌<◌, ◌≤◌, true, false, ◌||◌};
 ghost use Rattle.pieces.specs.Ticks.{Steady};
 ghost use Rattle.verdicts.specs.Yes.{any, Clear};
-ghost use Rattle.verdicts.specs.Reaches.{sees as sight, holds as long-sight, Ahead};
+ghost use Rattle.verdicts.specs.Reaches.{sees as sight, holds as long_sight, Ahead};
 
 use crate::ors::Or;
 use crate::window::Window;
@@ -79,7 +79,7 @@ fn held_from<A: YesNo, B: YesNo, C: YesNo>(
 ) -> (bool, Option<u32>)
     requires alive { B.YesNo.f dead.now t ≡ false }
     requires clear { Clear (B.YesNo.f dead.now) (t - window.to) t s }
-    ensures { Steady (λ u. any (λ s. long-sight (A.YesNo.f asks.now) (B.YesNo.f dead.now) (C.YesNo.f need.now) window.from window.to s u) window.limit) t result.0 result.1 }
+    ensures { Steady (λ u. any (λ s. long_sight (A.YesNo.f asks.now) (B.YesNo.f dead.now) (C.YesNo.f need.now) window.from window.to s u) window.limit) t result.0 result.1 }
 {
     let limit = window.limit;
     let either = Or {
@@ -117,7 +117,7 @@ pub(crate) fn left_at<A: YesNo, B: YesNo, C: YesNo>(
     window: Window,
     t: u32,
 ) -> (bool, Option<u32>)
-    ensures { Steady (λ u. any (λ s. long-sight (A.YesNo.f asks.now) (B.YesNo.f dead.now) (C.YesNo.f need.now) window.from window.to s u) window.limit) t result.0 result.1 }
+    ensures { Steady (λ u. any (λ s. long_sight (A.YesNo.f asks.now) (B.YesNo.f dead.now) (C.YesNo.f need.now) window.from window.to s u) window.limit) t result.0 result.1 }
 {
     let (gone, next) = dead.step(t);
     if gone {

@@ -1,4 +1,6 @@
 // The judge: the ranges of a rule's rows over the readings of a job, and the marks, in the caller's cells.
+#![tactic(auto)]
+
 mod all_marks;
 mod all_wants;
 mod child;

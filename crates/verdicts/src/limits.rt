@@ -22,7 +22,7 @@ fn above(number: i32, limit: i32) -> Gap
 // A test's range at a reading: which end is the lower one goes by the side.
 pub(crate) fn tested<G: Grade>(side: Side, limit: i32, reading: Reading) -> Range<G>
     requires { NumberFits limit }
-    ensures { worth kind value result ≡ range_of kind side limit reading }
+    ensures { worth G.kind G.value result ≡ range_of G.kind side limit reading }
 {
     match side {
         Side::AtLeast => Range {

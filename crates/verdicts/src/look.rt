@@ -26,7 +26,7 @@ pub(crate) fn lookup<V: Copy>(pieces: &[Piece<V>], t: u64) -> (V, Option<u32>)
 // The same in a list of ranges, as a step of the function of ticks that the list stands for.
 pub(crate) fn look<G: Grade>(pieces: &[Piece<Range<G>>], t: u64) -> (Range<G>, Option<u32>)
     requires { ordered pieces.now ≡ true }
-    ensures { Steady (heard kind value pieces.now) t (worth kind value result.0) result.1 }
+    ensures { Steady (heard G.kind G.value pieces.now) t (worth G.kind G.value result.0) result.1 }
 {
     lookup(pieces, t)
 }

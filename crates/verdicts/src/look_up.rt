@@ -1,6 +1,4 @@
 // Look-ups in piece lists.
-ghost use Rattle.std.specs.Prelude.{◌≡◌, ℕ, ◌+◌, ◌<◌, ◌≤◌, true, length};
-ghost use Rattle.pieces.specs.declared.piece.Piece.{Piece};
 ghost use Rattle.pieces.specs.Pieces.{Found};
 
 use crate::listed::Listed;

@@ -1,5 +1,5 @@
 // Which row has another as its child.
-ghost use Rattle.std.specs.Prelude.{◌≡◌, ℕ, ◌+◌, ◌<◌, Bool, true, false, length};
+ghost use Rattle.std.specs.Prelude.{◌≡◌, ◌+◌, ◌<◌, length};
 ghost use Rattle.rules.specs.Rows.{row_at, Child, Sound};
 ghost use Rattle.verdicts.specs.Children.{is_child};
 

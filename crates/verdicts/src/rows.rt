@@ -5,7 +5,7 @@ ghost use Rattle.grades.specs.Worth.{worth};
 ghost use Rattle.pieces.specs.Pieces.{ordered};
 ghost use Rattle.pieces.specs.Ticks.{Steady};
 ghost use Rattle.pieces.specs.Cells.{Written};
-ghost use Rattle.meaning.specs.Values.{step as row-value};
+ghost use Rattle.meaning.specs.Values.{step as row_value};
 ghost use Rattle.meaning.specs.Verdicts.{ranges};
 ghost use Rattle.verdicts.specs.Places.{list_at, told, Stands, Ready};
 
@@ -52,7 +52,7 @@ fn row_step<G: Grade, L: Lines>(
     t: u32,
 ) -> (Range<G>, Option<u32>)
     requires { Ready row begins.now done.now }
-    ensures { Steady (row-value (ranges G.Grade.kind) (L.Lines.x lines.now) (told G.Grade.kind G.Grade.value begins.now done.now) row) t (worth G.Grade.kind G.Grade.value result.0) result.1 }
+    ensures { Steady (row_value (ranges G.Grade.kind) (L.Lines.x lines.now) (told G.Grade.kind G.Grade.value begins.now done.now) row) t (worth G.Grade.kind G.Grade.value result.0) result.1 }
 {
     match row {
         Row::Test { line, side, limit } => {
@@ -106,7 +106,7 @@ impl<'a, 'b, G: Grade, L: Lines> Source<Range<G>> for RowSource<'a, 'b, L> {
 
     ghost can = { λ s done. Ready s.row s.begins.now done };
 
-    ghost f = { λ s done. row-value (ranges G.Grade.kind) (L.Lines.x s.lines.now) (told G.Grade.kind G.Grade.value s.begins.now done) s.row };
+    ghost f = { λ s done. row_value (ranges G.Grade.kind) (L.Lines.x s.lines.now) (told G.Grade.kind G.Grade.value s.begins.now done) s.row };
 
     fn same(&self, one: Range<G>, other: Range<G>) -> bool {
         one.same(other)
@@ -126,7 +126,7 @@ pub(crate) fn write_row<G: Grade, L: Lines>(
     used: usize,
 ) -> Result<usize, Full>
     requires { Ready row begins.now (take used cells.old) }
-    ensures { Written (worth G.Grade.kind G.Grade.value) (row-value (ranges G.Grade.kind) (L.Lines.x lines.now) (told G.Grade.kind G.Grade.value begins.now (take used cells.old)) row) cells.old used cells.new result }
+    ensures { Written (worth G.Grade.kind G.Grade.value) (row_value (ranges G.Grade.kind) (L.Lines.x lines.now) (told G.Grade.kind G.Grade.value begins.now (take used cells.old)) row) cells.old used cells.new result }
 {
     let source = RowSource { row, begins, lines };
     sweep_in(&source, cells, used)

@@ -22,7 +22,7 @@ pub(crate) enum Way {
 
 // The upper or the lower of the two.
 fn combine<G: Grade>(way: Way, one: Range<G>, other: Range<G>) -> Range<G>
-    ensures { worth kind value result ≡ op kind way (worth kind value one) (worth kind value other) }
+    ensures { worth G.kind G.value result ≡ op G.kind way (worth G.kind G.value one) (worth G.kind G.value other) }
 {
     match way {
         Way::Upper => one.upper(other),
@@ -33,7 +33,7 @@ fn combine<G: Grade>(way: Way, one: Range<G>, other: Range<G>) -> Range<G>
 // The child's opposite, as long as the child stays.
 pub(crate) fn not_step<G: Grade>(child: &[Piece<Range<G>>], t: u32) -> (Range<G>, Option<u32>)
     requires { ordered child.now ≡ true }
-    ensures { Steady (λ u. (spans kind).opposite (heard kind value child.now u)) t (worth kind value result.0) result.1 }
+    ensures { Steady (λ u. (spans G.kind).opposite (heard G.kind G.value child.now u)) t (worth G.kind G.value result.0) result.1 }
 {
     let (range, next) = look(child, t as u64);
     (range.opposite(), next)
@@ -48,7 +48,7 @@ pub(crate) fn pair_step<G: Grade>(
 ) -> (Range<G>, Option<u32>)
     requires left { ordered left.now ≡ true }
     requires right { ordered right.now ≡ true }
-    ensures { Steady (λ u. op kind way (heard kind value left.now u) (heard kind value right.now u)) t (worth kind value result.0) result.1 }
+    ensures { Steady (λ u. op G.kind way (heard G.kind G.value left.now u) (heard G.kind G.value right.now u)) t (worth G.kind G.value result.0) result.1 }
 {
     let (one, m) = look(left, t as u64);
     let (other, n) = look(right, t as u64);
@@ -64,8 +64,8 @@ pub(crate) fn gather<G: Grade>(
 ) -> (Range<G>, Option<u32>)
     requires list { ordered child.now ≡ true }
     requires window { first ≤ end }
-    ensures all { worth kind value result.0 ≡ over (op kind way) (heard kind value child.now) first (end - first) }
-    ensures next { Stays (heard kind value child.now) end result.1 }
+    ensures all { worth G.kind G.value result.0 ≡ over (op G.kind way) (heard G.kind G.value child.now) first (end - first) }
+    ensures next { Stays (heard G.kind G.value child.now) end result.1 }
 {
     let (range, after) = look(child, first);
     let mut all = range;
@@ -91,7 +91,7 @@ pub(crate) fn window_step<G: Grade>(
 ) -> (Range<G>, Option<u32>)
     requires list { ordered child.now ≡ true }
     requires window { from ≤ to }
-    ensures { Steady (λ u. over (op kind way) (heard kind value child.now) (u + from) (to - from)) t (worth kind value result.0) result.1 }
+    ensures { Steady (λ u. over (op G.kind way) (heard G.kind G.value child.now) (u + from) (to - from)) t (worth G.kind G.value result.0) result.1 }
 {
     let first = t as u64 + from as u64;
     let end = t as u64 + to as u64;

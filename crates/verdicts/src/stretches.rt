@@ -1,6 +1,5 @@
 // The longest stretches on which a row asks.
-ghost use Rattle.std.specs.Prelude.{◌≡◌, ℕ, ◌+◌, ◌-◌, ◌<◌, ◌≤◌, Bool, true, false, length};
-ghost use Rattle.verdicts.specs.Marks.{MarkedRow, StretchesCover, StretchesPinned};
+ghost use Rattle.verdicts.specs.Marks.{MarkedRow};
 
 use crate::yes::first;
 use crate::yesno::YesNo;

@@ -1,5 +1,5 @@
 // Yes and no from lists of ranges and of wants.
-ghost use Rattle.std.specs.Prelude.{◌≡◌, Bool, true, false, ◌&&◌};
+ghost use Rattle.std.specs.Prelude.{◌≡◌, false};
 ghost use Rattle.grades.specs.Worth.{worth};
 ghost use Rattle.pieces.specs.Pieces.{at_list};
 ghost use Rattle.verdicts.specs.Trials.{tried, range_says, asked};
@@ -13,7 +13,7 @@ use grades::range::Range;
 use pieces::ticks::first_of;
 
 fn try_range<G: Grade>(trial: Trial, range: Range<G>) -> bool
-    ensures { result ≡ tried kind trial (worth kind value range) }
+    ensures { result ≡ tried G.kind trial (worth G.kind G.value range) }
 {
     match trial {
         Trial::Loose => !range.settled(),

@@ -27,9 +27,9 @@ fn gather_until<G: Grade>(
     requires right { ordered right.now ≡ true }
     requires start { t ≤ first }
     requires window { first ≤ end }
-    ensures all { worth kind value result.0 ≡ over (spans kind).join (goal kind value left.now right.now t) first (end - first) }
-    ensures leaves { Stays (goal kind value left.now right.now t) first result.1 }
-    ensures next { Stays (goal kind value left.now right.now t) end result.2 }
+    ensures all { worth G.kind G.value result.0 ≡ over (spans G.kind).join (goal G.kind G.value left.now right.now t) first (end - first) }
+    ensures leaves { Stays (goal G.kind G.value left.now right.now t) first result.1 }
+    ensures next { Stays (goal G.kind G.value left.now right.now t) end result.2 }
 {
     let (run, more) = gather(Way::Lower, left, t, first);
     let (aim, after) = look(right, first);
@@ -62,7 +62,7 @@ pub(crate) fn until_step<G: Grade>(
     requires left { ordered left.now ≡ true }
     requires right { ordered right.now ≡ true }
     requires window { from ≤ to }
-    ensures { Steady (λ u. over (spans kind).join (goal kind value left.now right.now u) (u + from) (to - from)) t (worth kind value result.0) result.1 }
+    ensures { Steady (λ u. over (spans G.kind).join (goal G.kind G.value left.now right.now u) (u + from) (to - from)) t (worth G.kind G.value result.0) result.1 }
 {
     let start = t as u64;
     let (_, changes) = look(left, start);

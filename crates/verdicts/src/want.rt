@@ -1,9 +1,5 @@
 // Where a row's child is wanted, from the lists of ranges and the row's own want list.
-ghost use Rattle.std.specs.Prelude.{◌≡◌, ◌+◌, ◌<◌, ◌≤◌, Bool, true, false};
-ghost use Rattle.pieces.specs.Pieces.{ordered};
 ghost use Rattle.pieces.specs.Ticks.{Steady};
-ghost use Rattle.rules.specs.declared.row.Row.TheVariants.{Until};
-ghost use Rattle.verdicts.specs.Places.{list_at, Stands};
 ghost use Rattle.verdicts.specs.Children.{Askable, passed_on, said};
 
 use crate::child::{left_at, right_at};

@@ -1,7 +1,5 @@
 // The want lists of one row: of the last row, and of a row that is the child of another.
-ghost use Rattle.std.specs.Prelude.{◌≡◌, ◌<◌, Bool, take};
-ghost use Rattle.grades.specs.Kinds.{Tells};
-ghost use Rattle.pieces.specs.Ticks.{Steady};
+ghost use Rattle.std.specs.Prelude.{◌<◌, Bool, take};
 ghost use Rattle.pieces.specs.Cells.{Written};
 ghost use Rattle.verdicts.specs.Places.{list_at, Stands};
 ghost use Rattle.verdicts.specs.Children.{Askable, passed_on, said};

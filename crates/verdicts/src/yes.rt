@@ -1,5 +1,5 @@
 // Walks over a signal of yes and no.
-ghost use Rattle.std.specs.Prelude.{◌≡◌, ◌<◌, ◌≤◌};
+ghost use Rattle.std.specs.Prelude.{◌≡◌, ◌≤◌};
 ghost use Rattle.verdicts.specs.Yes.{First, Clear, clip};
 
 use crate::yesno::YesNo;

@@ -13,17 +13,17 @@ use Rattle.verdicts.proofs.all_marks.mark_rows.Goals as goal
 pub loop-k-init : goal.loop-k-init
 loop-k-init g c = ([], (refl, (refl, refl), refl))
 
-pub returns-in-err-used : goal.returns-in-err-used
-returns-in-err-used g c =
+pub returns-in_err-used : goal.returns-in_err-used
+returns-in_err-used g c =
     let rows = c.args.rows.now in
     let n = length rows in
     let asks : ℕ → ℕ → Bool = λ k. asks_at g.G.Grade.kind g.G.Grade.value c.args.begins.now c.args.ranges.now c.args.starts.now c.args.wants.now k (n - 1 - k) in
     let k = c.loop-k.k in
     let none = Test 0 AtLeast (pos 0) in
-    let p = err_from_is_err_and c.from-residual.result c.from-residual.ensures.1 in
-    subst (λ r. MarkedRows (λ j. is_test (row_at rows j)) asks (λ j. c.args.limit) n c.args.marks.now c.mark-test.new.marks r) (sym p.1)
-    (short_row (λ j. is_test (row_at rows j)) asks (λ j. c.args.limit) c.args.marks.now k c.loop-k.used c.loop-k.marks c.mark-test.new.marks c.loop-k.invariant p.0
-    (is_test (get_or rows k none)) (ap is_test (sym (get_or_default rows k none (Not 0) c.loop-k-test.true))) n c.loop-k-test.true c.loop-k.auto.marks c.in-err-used.ensures)
+    let p = err_from_is_err_and c.from_residual.result c.from_residual.ensures.1 in
+    subst (λ r. MarkedRows (λ j. is_test (row_at rows j)) asks (λ j. c.args.limit) n c.args.marks.now c.mark_test.new.marks r) (sym p.1)
+    (short_row (λ j. is_test (row_at rows j)) asks (λ j. c.args.limit) c.args.marks.now k c.loop-k.used c.loop-k.marks c.mark_test.new.marks c.loop-k.invariant p.0
+    (is_test (get_or rows k none)) (ap is_test (sym (get_or_default rows k none (Not 0) c.loop-k-test.true))) n c.loop-k-test.true c.loop-k.auto.marks c.in_err-used.ensures)
 
 pub loop-k-preserved : goal.loop-k-preserved
 loop-k-preserved g c =
@@ -32,8 +32,8 @@ loop-k-preserved g c =
     let asks : ℕ → ℕ → Bool = λ k. asks_at g.G.Grade.kind g.G.Grade.value c.args.begins.now c.args.ranges.now c.args.starts.now c.args.wants.now k (n - 1 - k) in
     let k = c.loop-k.k in
     let none = Test 0 AtLeast (pos 0) in
-    next_row (λ j. is_test (row_at rows j)) asks (λ j. c.args.limit) c.args.marks.now k c.loop-k.used c.loop-k.marks c.mark-test.new.marks c.loop-k.invariant Full
-    (is_test (get_or rows k none)) (ap is_test (sym (get_or_default rows k none (Not 0) c.loop-k-test.true))) c.in-ok-used.used c.in-ok-used.ensures
+    next_row (λ j. is_test (row_at rows j)) asks (λ j. c.args.limit) c.args.marks.now k c.loop-k.used c.loop-k.marks c.mark_test.new.marks c.loop-k.invariant Full
+    (is_test (get_or rows k none)) (ap is_test (sym (get_or_default rows k none (Not 0) c.loop-k-test.true))) c.in_ok-used.used c.in_ok-used.ensures
 
 pub returns : goal.returns
 returns g c =

@@ -3,8 +3,8 @@ use Rattle.verdicts.proofs.Standing.{row_stands}
 use Rattle.verdicts.proofs.MarkLists.{wants_stand, marks_written}
 use Rattle.verdicts.proofs.all_marks.write_marks.Goals as goal
 
-pub mark-rows-requires : goal.mark-rows-requires
-mark-rows-requires g c =
+pub mark_rows-requires : goal.mark_rows-requires
+mark_rows-requires g c =
     let rows = c.args.rows.now in
     let x = g.L.Lines.x c.args.lines.now in
     record {
@@ -15,4 +15,4 @@ mark-rows-requires g c =
 pub returns : goal.returns
 returns g c =
     marks_written g.G.Grade.kind g.G.Grade.value c.args.rows.now c.requires.sound (g.L.Lines.x c.args.lines.now) c.args.tick (c.args.tick + c.args.ahead + 1) (ap (λ n. c.args.tick + n + 1) c.requires.ahead) c.args.begins.now c.args.ranges.now c.requires.stand
-    c.args.starts.now c.args.wants.now c.requires.wants c.args.marks.now c.mark-rows.new.marks c.mark-rows.auto.marks c.mark-rows.result c.mark-rows.ensures
+    c.args.starts.now c.args.wants.now c.requires.wants c.args.marks.now c.mark_rows.new.marks c.mark_rows.auto.marks c.mark_rows.result c.mark_rows.ensures

@@ -18,7 +18,7 @@ returns-then-t-soonest g c =
     let dead = g.B.YesNo.f c.args.dead.now in
     let goal = g.C.YesNo.f c.args.need.now in
     let P : ℕ → Type 0 = λ n. Ahead dead goal c.args.to c.args.end c.args.w c.args.t false (Some n) in
-    subst P (sym c.saturating-sub-soonest.ensures) (ahead_far dead goal c.args.to c.args.end c.args.w c.args.t c.requires.from (omega arith))
+    subst P (sym c.saturating_sub-soonest.ensures) (ahead_far dead goal c.args.to c.args.end c.args.w c.args.t c.requires.from (omega arith))
 
 pub returns : goal.returns
 returns g c =
@@ -26,5 +26,5 @@ returns g c =
     let goal = g.C.YesNo.f c.args.need.now in
     let e = c.args.end in
     let P : ℕ → Type 0 = λ n. Ahead dead goal c.args.to e c.args.w c.args.t true (Some n) in
-    subst P (sym (c.clipped-next.ensures ∙ ap (λ o. clip o e) c.first-of.ensures))
+    subst P (sym (c.clipped-next.ensures ∙ ap (λ o. clip o e) c.first_of.ensures))
     (ahead_near dead goal c.args.to e c.args.w c.args.t c.requires.from c.step-gone.result.0 c.step-ends.result.0 c.step-gone.result.1 c.step-ends.result.1 (omega arith) c.requires.before c.requires.here c.step-gone.ensures c.step-ends.ensures c.if-gone.false)

@@ -19,11 +19,11 @@ returns-then-p-window g c =
     let dead = g.B.YesNo.f c.args.dead.now in
     let w = c.args.window in
     let u = c.args.t in
-    let s = c.clear-from-s.result in
+    let s = c.clear_from-s.result in
     let p = c.first-p.result in
-    let back : c.saturating-sub.result ≡ u - w.to = omega arith in
+    let back : c.saturating_sub.result ≡ u - w.to = omega arith in
     let top : c.max.result ≡ max w.limit s = omega arith in
-    let cl = subst (λ n. Clear dead n u s) back c.clear-from-s.ensures in
+    let cl = subst (λ n. Clear dead n u s) back c.clear_from-s.ensures in
     let f = subst (λ n. First asks true s n p) top c.first-p.ensures in
     seen_steady asks dead w.from w.to w.limit u false None (seen_never asks dead w.from w.to w.limit u s cl p f c.if-p-window.true)
 
@@ -33,11 +33,11 @@ returns-then-t-p g c =
     let dead = g.B.YesNo.f c.args.dead.now in
     let w = c.args.window in
     let u = c.args.t in
-    let s = c.clear-from-s.result in
+    let s = c.clear_from-s.result in
     let p = c.first-p.result in
-    let back : c.saturating-sub.result ≡ u - w.to = omega arith in
+    let back : c.saturating_sub.result ≡ u - w.to = omega arith in
     let top : c.max.result ≡ max w.limit s = omega arith in
-    let cl = subst (λ n. Clear dead n u s) back c.clear-from-s.ensures in
+    let cl = subst (λ n. Clear dead n u s) back c.clear_from-s.ensures in
     let f = subst (λ n. First asks true s n p) top c.first-p.ensures in
     seen_steady asks dead w.from w.to w.limit u false (Some (p + w.from)) (seen_later asks dead w.from w.to w.limit u s cl p f c.if-t-p.true)
 
@@ -47,15 +47,15 @@ returns g c =
     let dead = g.B.YesNo.f c.args.dead.now in
     let w = c.args.window in
     let u = c.args.t in
-    let s = c.clear-from-s.result in
+    let s = c.clear_from-s.result in
     let p = c.first-p.result in
     let q = c.clipped-q.result in
     let z = c.first-end.result in
     let gone = c.step-gone.ensures in
     let here : dead u ≡ false = sym (gone.1 u (omega arith) (later_before u c.step-gone.result.1 gone.0)) ∙ c.if-gone.false in
-    let back : c.saturating-sub.result ≡ u - w.to = omega arith in
+    let back : c.saturating_sub.result ≡ u - w.to = omega arith in
     let top : c.max.result ≡ max w.limit s = omega arith in
-    let cl = subst (λ n. Clear dead n u s) back c.clear-from-s.ensures in
+    let cl = subst (λ n. Clear dead n u s) back c.clear_from-s.ensures in
     let f = subst (λ n. First asks true s n p) top c.first-p.ensures in
     seen_steady asks dead w.from w.to w.limit u true (Some z)
     (seen_found asks dead w.from w.to w.limit u s cl p f here w.ok c.if-p-window.false c.if-t-p.false q z c.step-after.result.0 c.step-after.result.1 c.step-after.ensures c.clipped-q.ensures c.first-end.ensures)

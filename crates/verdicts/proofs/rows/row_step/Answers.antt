@@ -44,35 +44,35 @@ returns-in-Test g c =
 pub returns-in-Not : goal.returns-in-Not
 returns-in-Not g c =
     not_row g.G.Grade.kind g.G.Grade.value (g.L.Lines.x c.args.lines.now) c.args.begins.now c.args.done.now c.args.row c.args.t
-    (worth g.G.Grade.kind g.G.Grade.value c.not-step.result.0) c.not-step.result.1
-    c.in-Not.child c.list.result.now c.in-Not.is c.list.ensures.is c.not-step.ensures
+    (worth g.G.Grade.kind g.G.Grade.value c.not_step.result.0) c.not_step.result.1
+    c.in-Not.child c.list.result.now c.in-Not.is c.list.ensures.is c.not_step.ensures
 
 pub returns-in-And : goal.returns-in-And
 returns-in-And g c =
     and_row g.G.Grade.kind g.G.Grade.value (g.L.Lines.x c.args.lines.now) c.args.begins.now c.args.done.now c.args.row c.args.t
-    (worth g.G.Grade.kind g.G.Grade.value c.pair-step.result.0) c.pair-step.result.1
-    c.in-And.left c.in-And.right c.list-left.result.now c.list-right.result.now c.in-And.is c.list-left.ensures.is c.list-right.ensures.is c.pair-step.ensures
+    (worth g.G.Grade.kind g.G.Grade.value c.pair_step.result.0) c.pair_step.result.1
+    c.in-And.left c.in-And.right c.list-left.result.now c.list-right.result.now c.in-And.is c.list-left.ensures.is c.list-right.ensures.is c.pair_step.ensures
 
 pub returns-in-Or : goal.returns-in-Or
 returns-in-Or g c =
     or_row g.G.Grade.kind g.G.Grade.value (g.L.Lines.x c.args.lines.now) c.args.begins.now c.args.done.now c.args.row c.args.t
-    (worth g.G.Grade.kind g.G.Grade.value c.pair-step-in-Or.result.0) c.pair-step-in-Or.result.1
-    c.in-Or.left c.in-Or.right c.list-left-in-Or.result.now c.list-right-in-Or.result.now c.in-Or.is c.list-left-in-Or.ensures.is c.list-right-in-Or.ensures.is c.pair-step-in-Or.ensures
+    (worth g.G.Grade.kind g.G.Grade.value c.pair_step-in-Or.result.0) c.pair_step-in-Or.result.1
+    c.in-Or.left c.in-Or.right c.list-left-in-Or.result.now c.list-right-in-Or.result.now c.in-Or.is c.list-left-in-Or.ensures.is c.list-right-in-Or.ensures.is c.pair_step-in-Or.ensures
 
 pub returns-in-Eventually : goal.returns-in-Eventually
 returns-in-Eventually g c =
     eventually_row g.G.Grade.kind g.G.Grade.value (g.L.Lines.x c.args.lines.now) c.args.begins.now c.args.done.now c.args.row c.args.t
-    (worth g.G.Grade.kind g.G.Grade.value c.window-step.result.0) c.window-step.result.1
-    c.in-Eventually.from c.in-Eventually.to c.in-Eventually.child c.list-child.result.now c.in-Eventually.is c.list-child.ensures.is c.window-step.ensures
+    (worth g.G.Grade.kind g.G.Grade.value c.window_step.result.0) c.window_step.result.1
+    c.in-Eventually.from c.in-Eventually.to c.in-Eventually.child c.list-child.result.now c.in-Eventually.is c.list-child.ensures.is c.window_step.ensures
 
 pub returns-in-Always : goal.returns-in-Always
 returns-in-Always g c =
     always_row g.G.Grade.kind g.G.Grade.value (g.L.Lines.x c.args.lines.now) c.args.begins.now c.args.done.now c.args.row c.args.t
-    (worth g.G.Grade.kind g.G.Grade.value c.window-step-in-Always.result.0) c.window-step-in-Always.result.1
-    c.in-Always.from c.in-Always.to c.in-Always.child c.list-child-in-Always.result.now c.in-Always.is c.list-child-in-Always.ensures.is c.window-step-in-Always.ensures
+    (worth g.G.Grade.kind g.G.Grade.value c.window_step-in-Always.result.0) c.window_step-in-Always.result.1
+    c.in-Always.from c.in-Always.to c.in-Always.child c.list-child-in-Always.result.now c.in-Always.is c.list-child-in-Always.ensures.is c.window_step-in-Always.ensures
 
 pub returns-in-Until : goal.returns-in-Until
 returns-in-Until g c =
     until_row g.G.Grade.kind g.G.Grade.value (g.L.Lines.x c.args.lines.now) c.args.begins.now c.args.done.now c.args.row c.args.t
-    (worth g.G.Grade.kind g.G.Grade.value c.until-step.result.0) c.until-step.result.1
-    c.in-Until.from c.in-Until.to c.in-Until.left c.in-Until.right c.list-left-in-Until.result.now c.list-right-in-Until.result.now c.in-Until.is c.list-left-in-Until.ensures.is c.list-right-in-Until.ensures.is c.until-step.ensures
+    (worth g.G.Grade.kind g.G.Grade.value c.until_step.result.0) c.until_step.result.1
+    c.in-Until.from c.in-Until.to c.in-Until.left c.in-Until.right c.list-left-in-Until.result.now c.list-right-in-Until.result.now c.in-Until.is c.list-left-in-Until.ensures.is c.list-right-in-Until.ensures.is c.until_step.ensures

@@ -4,7 +4,7 @@ use Rattle.pieces.specs.Ticks.{Later}
 use Rattle.verdicts.specs.Signals.{heard}
 use Rattle.verdicts.proofs.Overs.{under, joins, Gathering, gathering_first, gathering_more, gathering_whole, gathering_stays}
 use Rattle.verdicts.proofs.steps.gather.Goals as goal
-use Rattle.verdicts.proofs.steps.gather.Goals.{in-Some+then-u-end, in-default}
+use Rattle.verdicts.proofs.steps.gather.Goals.{in-Some+then-u-end, in_default}
 
 pub loop-next-init : goal.loop-next-init
 loop-next-init g c =
@@ -33,8 +33,8 @@ returns g c =
     let e = c.args.end in
     let x = worth K g.G.Grade.value c.loop-next.all in
     let next = c.match-next.next in
-    let same : next ≡ c.loop-next.next = elim c.match-next.branch [ in-Some+then-u-end w ↦ w.next-is ∙ sym w.in-Some.is | in-default w ↦ w.next-is ] in
-    let late : Later e next = elim c.match-next.branch [ in-Some+then-u-end w ↦ subst (Later e) (sym w.next-is) w.if-u-end.true | in-default w ↦ subst (Later e) (sym (w.next-is ∙ w.in-default.is)) tt ] in
+    let same : next ≡ c.loop-next.next = elim c.match-next.branch [ in-Some+then-u-end w ↦ w.next-is ∙ sym w.in-Some.is | in_default w ↦ w.next-is ] in
+    let late : Later e next = elim c.match-next.branch [ in-Some+then-u-end w ↦ subst (Later e) (sym w.next-is) w.if-u-end.true | in_default w ↦ subst (Later e) (sym (w.next-is ∙ w.in_default.is)) tt ] in
     let at = c.loop-next.invariant.0 in
     let G = subst (λ o. Gathering (under K c.args.way) f s e at o x) (sym same) c.loop-next.invariant.1 in
     record { all = gathering_whole J f s e at next x G c.requires.window late; next = gathering_stays J f s e at next x G late }

@@ -15,5 +15,5 @@ returns g c =
     let y = W c.look-other.result.0 in
     let m = c.look-one.result.1 in
     let n = c.look-other.result.1 in
-    steady_as (λ u. f (l u) (r u)) c.args.t (f x y) (W c.combine.result) (sooner m n) c.first-of.result c.combine.ensures c.first-of.ensures
+    steady_as (λ u. f (l u) (r u)) c.args.t (f x y) (W c.combine.result) (sooner m n) c.first_of.result c.combine.ensures c.first_of.ensures
     (both_steady l r c.args.t x y m n f c.look-one.ensures c.look-other.ensures)

@@ -15,6 +15,6 @@ returns g c =
     let t = c.args.t in
     let leaves = c.look-leaves.result.1 in
     let next = c.gather-all.result.1 in
-    window_steady (joins g.met.G.Grade.lawful c.args.way) f t a b (W c.gather-all.result.0) leaves next c.first-of.result c.requires.window c.gather-all.ensures.all
+    window_steady (joins g.met.G.Grade.lawful c.args.way) f t a b (W c.gather-all.result.0) leaves next c.first_of.result c.requires.window c.gather-all.ensures.all
     (self_steady f (t + a) (W c.look-leaves.result.0) leaves c.look-leaves.ensures) c.gather-all.ensures.next
-    (moved c.first-of.result c.moved-back.result c.moved-back-2.result leaves next a b c.first-of.ensures c.moved-back.ensures c.moved-back-2.ensures)
+    (moved c.first_of.result c.moved_back.result c.moved_back-2.result leaves next a b c.first_of.ensures c.moved_back.ensures c.moved_back-2.ensures)

@@ -10,26 +10,26 @@ use Rattle.verdicts.proofs.table.write_rows.Goals as goal
 pub loop-k-init : goal.loop-k-init
 loop-k-init g c = filled_none g.G.Grade.kind g.G.Grade.value c.args.rows.now (g.L.Lines.x c.args.lines.now) c.args.cells.now _ refl refl
 
-pub write-row-requires : goal.write-row-requires
-write-row-requires g c =
+pub write_row-requires : goal.write_row-requires
+write_row-requires g c =
     let rows = c.args.rows.now in
     let k = c.loop-k.k in
     let none = Test 0 AtLeast (pos 0) in
     filled_ready g.G.Grade.kind g.G.Grade.value rows (g.L.Lines.x c.args.lines.now) c.args.cells.now k c.loop-k.begins c.loop-k.cells c.loop-k.used c.loop-k.invariant
     c.requires.sound c.loop-k-test.true (get_or rows k none) (get_or_default rows k none (Not 0) c.loop-k-test.true)
 
-pub returns-in-err-used : goal.returns-in-err-used
-returns-in-err-used g c =
+pub returns-in_err-used : goal.returns-in_err-used
+returns-in_err-used g c =
     let K = g.G.Grade.kind in
     let rows = c.args.rows.now in
     let x = g.L.Lines.x c.args.lines.now in
     let k = c.loop-k.k in
     let none = Test 0 AtLeast (pos 0) in
-    let p = err_from_is_err_and c.from-residual.result c.from-residual.ensures.1 in
-    subst (λ r. RowsWritten K g.G.Grade.value rows x c.args.cells.now c.write-row.new.cells r) (sym p.1)
+    let p = err_from_is_err_and c.from_residual.result c.from_residual.ensures.1 in
+    subst (λ r. RowsWritten K g.G.Grade.value rows x c.args.cells.now c.write_row.new.cells r) (sym p.1)
     (filled_short K g.G.Grade.value rows x c.args.cells.now k c.loop-k.begins c.loop-k.cells c.loop-k.used c.loop-k.invariant
     c.requires.sound c.loop-k-test.true (get_or rows k none) (get_or_default rows k none (Not 0) c.loop-k-test.true)
-    g.met.G.Grade.lawful c.requires.settles c.write-row.new.cells c.write-row.auto.cells c.loop-k.auto.cells c.in-err-used.ensures)
+    g.met.G.Grade.lawful c.requires.settles c.write_row.new.cells c.write_row.auto.cells c.loop-k.auto.cells c.in_err-used.ensures)
 
 pub loop-k-preserved : goal.loop-k-preserved
 loop-k-preserved g c =
@@ -38,7 +38,7 @@ loop-k-preserved g c =
     let none = Test 0 AtLeast (pos 0) in
     filled_more g.G.Grade.kind g.G.Grade.value rows (g.L.Lines.x c.args.lines.now) c.args.cells.now k c.loop-k.begins c.loop-k.cells c.loop-k.used c.loop-k.invariant
     c.requires.sound c.loop-k-test.true (get_or rows k none) (get_or_default rows k none (Not 0) c.loop-k-test.true)
-    c.write-row.new.cells c.write-row.auto.cells c.in-ok-used.used c.in-ok-used.ensures
+    c.write_row.new.cells c.write_row.auto.cells c.in_ok-used.used c.in_ok-used.ensures
 
 pub returns : goal.returns
 returns g c =

@@ -6,15 +6,15 @@ use Rattle.verdicts.specs.Signals.{heard}
 use Rattle.verdicts.proofs.Overs.{joins, gathering_whole, gathering_stays}
 use Rattle.verdicts.proofs.Goals.{aims, Walking, walking_leaves, walking_first, walking_more}
 use Rattle.verdicts.proofs.until.gather_until.Goals as goal
-use Rattle.verdicts.proofs.until.gather_until.Goals.{in-Some+then-u-end, in-default}
+use Rattle.verdicts.proofs.until.gather_until.Goals.{in-Some+then-u-end, in_default}
 
 pub loop-next-init : goal.loop-next-init
 loop-next-init g c =
     let K = g.G.Grade.kind in
     let W = worth K g.G.Grade.value in
     walking_first K (heard K g.G.Grade.value c.args.left.now) (heard K g.G.Grade.value c.args.right.now) c.args.t g.met.G.Grade.lawful c.args.first c.args.end
-    (W c.gather-more.result.0) (W c.look-after.result.0) (W c.lower-all.result) c.gather-more.result.1 c.look-after.result.1 c.first-of-leaves.result
-    c.requires.start c.gather-more.ensures.all c.gather-more.ensures.next c.look-after.ensures c.first-of-leaves.ensures c.requires.window c.lower-all.ensures
+    (W c.gather-more.result.0) (W c.look-after.result.0) (W c.lower-all.result) c.gather-more.result.1 c.look-after.result.1 c.first_of-leaves.result
+    c.requires.start c.gather-more.ensures.all c.gather-more.ensures.next c.look-after.ensures c.first_of-leaves.ensures c.requires.window c.lower-all.ensures
 
 pub loop-next-preserved : goal.loop-next-preserved
 loop-next-preserved g c =
@@ -22,8 +22,8 @@ loop-next-preserved g c =
     let W = worth K g.G.Grade.value in
     walking_more K (heard K g.G.Grade.value c.args.left.now) (heard K g.G.Grade.value c.args.right.now) c.args.t g.met.G.Grade.lawful c.args.first c.args.end
     c.loop-next.next (W c.loop-next.all) (W c.loop-next.low) c.requires.start c.loop-next.invariant
-    c.in-Some.u (W c.look-m.result.0) (W c.look-n.result.0) (W c.lower-low.result) (W c.lower-both.result) (W c.upper-all.result) c.look-m.result.1 c.look-n.result.1 c.first-of-next.result
-    c.in-Some.is c.if-u-end.false c.look-m.ensures c.look-n.ensures c.first-of-next.ensures c.lower-low.ensures c.lower-both.ensures c.upper-all.ensures
+    c.in-Some.u (W c.look-m.result.0) (W c.look-n.result.0) (W c.lower-low.result) (W c.lower-both.result) (W c.upper-all.result) c.look-m.result.1 c.look-n.result.1 c.first_of-next.result
+    c.in-Some.is c.if-u-end.false c.look-m.ensures c.look-n.ensures c.first_of-next.ensures c.lower-low.ensures c.lower-both.ensures c.upper-all.ensures
 
 pub returns : goal.returns
 returns g c =
@@ -37,12 +37,12 @@ returns g c =
     let e = c.args.end in
     let all = W c.loop-next.all in
     let next = c.match-next.next in
-    let same : next ≡ c.loop-next.next = elim c.match-next.branch [ in-Some+then-u-end w ↦ w.next-is ∙ sym w.in-Some.is | in-default w ↦ w.next-is ] in
-    let late : Later e next = elim c.match-next.branch [ in-Some+then-u-end w ↦ subst (Later e) (sym w.next-is) w.if-u-end.true | in-default w ↦ subst (Later e) (sym (w.next-is ∙ w.in-default.is)) tt ] in
+    let same : next ≡ c.loop-next.next = elim c.match-next.branch [ in-Some+then-u-end w ↦ w.next-is ∙ sym w.in-Some.is | in_default w ↦ w.next-is ] in
+    let late : Later e next = elim c.match-next.branch [ in-Some+then-u-end w ↦ subst (Later e) (sym w.next-is) w.if-u-end.true | in_default w ↦ subst (Later e) (sym (w.next-is ∙ w.in_default.is)) tt ] in
     let w = subst (λ o. Walking K l r t s e o all (W c.loop-next.low)) (sym same) c.loop-next.invariant in
     record {
       all = gathering_whole (joins L Upper) (aims K l r t) s e w.at next all w.gathered c.requires.window late;
-      leaves = walking_leaves K l r t L s e (W c.gather-more.result.0) (W c.look-after.result.0) (W c.lower-all.result) c.gather-more.result.1 c.look-after.result.1 c.first-of-leaves.result
-          c.requires.start c.gather-more.ensures.all c.gather-more.ensures.next c.look-after.ensures c.first-of-leaves.ensures;
+      leaves = walking_leaves K l r t L s e (W c.gather-more.result.0) (W c.look-after.result.0) (W c.lower-all.result) c.gather-more.result.1 c.look-after.result.1 c.first_of-leaves.result
+          c.requires.start c.gather-more.ensures.all c.gather-more.ensures.next c.look-after.ensures c.first_of-leaves.ensures;
       next = gathering_stays (joins L Upper) (aims K l r t) s e w.at next all w.gathered late;
     }

@@ -10,9 +10,9 @@ returns g c =
     let W = worth K g.G.Grade.value in
     let a = c.args.from in
     let b = c.args.to in
-    let leaves = c.gather-until-all.result.1 in
-    let next = c.gather-until-all.result.2 in
+    let leaves = c.gather_until-all.result.1 in
+    let next = c.gather_until-all.result.2 in
     until_steady K (heard K g.G.Grade.value c.args.left.now) (heard K g.G.Grade.value c.args.right.now) c.args.t g.met.G.Grade.lawful a b
-    (W c.gather-until-all.result.0) (W c.look-changes.result.0) c.look-changes.result.1 leaves next c.first-of.result c.first-of-2.result
-    c.requires.window c.gather-until-all.ensures.all c.look-changes.ensures c.gather-until-all.ensures.leaves c.gather-until-all.ensures.next
-    (moved c.first-of.result c.moved-back.result c.moved-back-2.result leaves next a b c.first-of.ensures c.moved-back.ensures c.moved-back-2.ensures) c.first-of-2.ensures
+    (W c.gather_until-all.result.0) (W c.look-changes.result.0) c.look-changes.result.1 leaves next c.first_of.result c.first_of-2.result
+    c.requires.window c.gather_until-all.ensures.all c.look-changes.ensures c.gather_until-all.ensures.leaves c.gather_until-all.ensures.next
+    (moved c.first_of.result c.moved_back.result c.moved_back-2.result leaves next a b c.first_of.ensures c.moved_back.ensures c.moved_back-2.ensures) c.first_of-2.ensures

@@ -1,5 +1,5 @@
 use Rattle.std.proofs.Common.{refl, inl, inr, eq-eqb, ne_eqb}
-use Rattle.rules.specs.declared.row.Row.TheVariants.{Not, And, Or, Eventually, Always, Until}
+use Rattle.rules.specs.declared.row.Row.TheVariants.{Until}
 use Rattle.verdicts.specs.declared.trial.Trial.TheVariants.{Lowest, Higher}
 use Rattle.verdicts.proofs.RowSteps.{stands}
 use Rattle.verdicts.proofs.WantSteps.{asks_said, trial_said, passed, passed_right, passed_left}
@@ -15,31 +15,31 @@ pub returns-in-Not : goal.returns-in-Not
 returns-in-Not g c =
     let range = c.listed-range in
     passed g.G.Grade.kind g.G.Grade.value c.args.begins.now c.args.ranges.now c.args.row _ c.in-Not.is c.args.k c.args.c c.args.limit c.args.t c.args.want.now _
-    (asks_said g.G.Grade.kind g.G.Grade.value c.args.begins.now c.args.ranges.now c.args.want.now _ c.args.k range.result.pieces.now range.result.ok range.ensures) c.right-at.result.0 c.right-at.result.1 c.right-at.ensures
+    (asks_said g.G.Grade.kind g.G.Grade.value c.args.begins.now c.args.ranges.now c.args.want.now _ c.args.k range.result.pieces.now range.result.ok range.ensures) c.right_at.result.0 c.right_at.result.1 c.right_at.ensures
 
 pub returns-in-And : goal.returns-in-And
 returns-in-And g c =
     let range = c.listed-range in
     passed g.G.Grade.kind g.G.Grade.value c.args.begins.now c.args.ranges.now c.args.row _ c.in-And.is c.args.k c.args.c c.args.limit c.args.t c.args.want.now _
-    (asks_said g.G.Grade.kind g.G.Grade.value c.args.begins.now c.args.ranges.now c.args.want.now _ c.args.k range.result.pieces.now range.result.ok range.ensures) c.right-at-in-And.result.0 c.right-at-in-And.result.1 c.right-at-in-And.ensures
+    (asks_said g.G.Grade.kind g.G.Grade.value c.args.begins.now c.args.ranges.now c.args.want.now _ c.args.k range.result.pieces.now range.result.ok range.ensures) c.right_at-in-And.result.0 c.right_at-in-And.result.1 c.right_at-in-And.ensures
 
 pub returns-in-Or : goal.returns-in-Or
 returns-in-Or g c =
     let range = c.listed-range in
     passed g.G.Grade.kind g.G.Grade.value c.args.begins.now c.args.ranges.now c.args.row _ c.in-Or.is c.args.k c.args.c c.args.limit c.args.t c.args.want.now _
-    (asks_said g.G.Grade.kind g.G.Grade.value c.args.begins.now c.args.ranges.now c.args.want.now _ c.args.k range.result.pieces.now range.result.ok range.ensures) c.right-at-in-Or.result.0 c.right-at-in-Or.result.1 c.right-at-in-Or.ensures
+    (asks_said g.G.Grade.kind g.G.Grade.value c.args.begins.now c.args.ranges.now c.args.want.now _ c.args.k range.result.pieces.now range.result.ok range.ensures) c.right_at-in-Or.result.0 c.right_at-in-Or.result.1 c.right_at-in-Or.ensures
 
 pub returns-in-Eventually : goal.returns-in-Eventually
 returns-in-Eventually g c =
     let range = c.listed-range in
     passed g.G.Grade.kind g.G.Grade.value c.args.begins.now c.args.ranges.now c.args.row _ c.in-Eventually.is c.args.k c.args.c c.args.limit c.args.t c.args.want.now _
-    (asks_said g.G.Grade.kind g.G.Grade.value c.args.begins.now c.args.ranges.now c.args.want.now _ c.args.k range.result.pieces.now range.result.ok range.ensures) c.right-at-in-Eventually.result.0 c.right-at-in-Eventually.result.1 c.right-at-in-Eventually.ensures
+    (asks_said g.G.Grade.kind g.G.Grade.value c.args.begins.now c.args.ranges.now c.args.want.now _ c.args.k range.result.pieces.now range.result.ok range.ensures) c.right_at-in-Eventually.result.0 c.right_at-in-Eventually.result.1 c.right_at-in-Eventually.ensures
 
 pub returns-in-Always : goal.returns-in-Always
 returns-in-Always g c =
     let range = c.listed-range in
     passed g.G.Grade.kind g.G.Grade.value c.args.begins.now c.args.ranges.now c.args.row _ c.in-Always.is c.args.k c.args.c c.args.limit c.args.t c.args.want.now _
-    (asks_said g.G.Grade.kind g.G.Grade.value c.args.begins.now c.args.ranges.now c.args.want.now _ c.args.k range.result.pieces.now range.result.ok range.ensures) c.right-at-in-Always.result.0 c.right-at-in-Always.result.1 c.right-at-in-Always.ensures
+    (asks_said g.G.Grade.kind g.G.Grade.value c.args.begins.now c.args.ranges.now c.args.want.now _ c.args.k range.result.pieces.now range.result.ok range.ensures) c.right_at-in-Always.result.0 c.right_at-in-Always.result.1 c.right_at-in-Always.ensures
 
 pub returns-then-c-right : goal.returns-then-c-right
 returns-then-c-right g c =
@@ -50,7 +50,7 @@ returns-then-c-right g c =
     let range = c.listed-range in
     let left = c.listed in
     let u = c.in-Until in
-    let called = c.right-at-then-c-right in
+    let called = c.right_at-then-c-right in
     passed_right K val begins ranges c.args.row u.from u.to u.left u.right u.is c.args.k c.args.c c.args.limit c.args.t c.args.want.now _
     (asks_said K val begins ranges c.args.want.now _ c.args.k range.result.pieces.now range.result.ok range.ensures) _
     (trial_said K val begins ranges Lowest u.left left.result.pieces.now left.result.ok left.ensures) called.result.0 called.result.1 (eq-eqb c.args.c u.right c.if-c-right.true) called.ensures
@@ -65,7 +65,7 @@ returns-else-c-right g c =
     let left = c.listed in
     let right = c.listed-else-c-right in
     let u = c.in-Until in
-    let called = c.left-at in
+    let called = c.left_at in
     passed_left K val begins ranges c.args.row u.from u.to u.left u.right u.is c.args.k c.args.c c.args.limit c.args.t c.args.want.now _
     (asks_said K val begins ranges c.args.want.now _ c.args.k range.result.pieces.now range.result.ok range.ensures) _
     (trial_said K val begins ranges Lowest u.left left.result.pieces.now left.result.ok left.ensures) called.result.0 called.result.1 (ne_eqb c.args.c u.right c.if-c-right.false) _

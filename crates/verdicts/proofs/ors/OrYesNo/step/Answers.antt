@@ -10,4 +10,4 @@ returns g c =
     let other : ℕ → Bool = g.T.YesNo.f s.other.now in
     let x = c.step-here.result in
     let y = c.step-also.result in
-    steady_as (λ u. one u || other u) t _ _ _ _ refl c.first-of.ensures (both_steady one other t x.0 y.0 x.1 y.1 ◌||◌ c.step-here.ensures c.step-also.ensures)
+    steady_as (λ u. one u || other u) t _ _ _ _ refl c.first_of.ensures (both_steady one other t x.0 y.0 x.1 y.1 ◌||◌ c.step-here.ensures c.step-also.ensures)

@@ -1,4 +1,4 @@
-use Rattle.std.proofs.Common.{◌≡◌, ℕ, Bool, ◌&&◌, refl, ap, ◌∙◌}
+use Rattle.std.proofs.Common.{ℕ, Bool, ◌&&◌, ap}
 use Rattle.grades.specs.Worth.{worth}
 use Rattle.grades.specs.declared.range.Range.{Range}
 use Rattle.pieces.specs.Pieces.{at_list}
@@ -19,4 +19,4 @@ returns g c =
     let one = found_steady (λ (b : Bool). b) s.want.pieces.now s.want.ok t c.at-wanted.result.0 c.at-wanted.result.1 c.at-wanted.ensures in
     let two = found_steady val s.range.pieces.now s.range.ok t c.at-range.result.0 c.at-range.result.1 c.at-range.ensures in
     let both = both_steady want loose t c.at-wanted.result.0 (val c.at-range.result.0) c.at-wanted.result.1 c.at-range.result.1 ◌&&◌ one two in
-    steady_as (asked want loose) t _ _ _ _ (ap (λ (b : Bool). c.at-wanted.result.0 && b) c.try-range-loose.ensures) c.first-of.ensures both
+    steady_as (asked want loose) t _ _ _ _ (ap (λ (b : Bool). c.at-wanted.result.0 && b) c.try_range-loose.ensures) c.first_of.ensures both

@@ -7,4 +7,4 @@ use Rattle.verdicts.proofs.want_sources.ChildSourceSourceBool.step.Goals as goal
 pub returns : goal.returns
 returns g c =
     let s = c.args.self.now in
-    subst (λ (ps : List (Piece Bool)). Steady (passed_on g.G.Grade.kind g.G.Grade.value s.begins.now s.ranges.now s.row s.number s.child s.limit (said ps)) c.args.t c.want-step.result.0 c.want-step.result.1) c.list-want.ensures.is c.want-step.ensures
+    subst (λ (ps : List (Piece Bool)). Steady (passed_on g.G.Grade.kind g.G.Grade.value s.begins.now s.ranges.now s.row s.number s.child s.limit (said ps)) c.args.t c.want_step.result.0 c.want_step.result.1) c.list-want.ensures.is c.want_step.ensures
