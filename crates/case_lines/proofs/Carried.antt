@@ -1,5 +1,5 @@
 -- The fields behind the rule, carried out one by one.
-use Rattle.std.proofs.Common.{◌≡◌, ℕ, ◌+◌, ◌<◌, List, [], ◌∷◌, ◌++◌, length, Some, None, Ok, Err, Result, sym, refl, ap, ◌∙◌, subst, append_assoc, append-nil, arith}
+use Rattle.std.proofs.Common.{◌≡◌, ℕ, ◌+◌, ◌<◌, List, [], ◌++◌, length, Some, None, Ok, Err, Result, sym, refl, ap, ◌∙◌, subst, append_assoc, append-nil, arith}
 use Rattle.std.proofs.lemmas.List.{length-append}
 use Rattle.rules.specs.declared.row.Row.{Row}
 use Rattle.runs.specs.States.{State}
@@ -8,7 +8,6 @@ use Rattle.cases.specs.declared.call.Call.TheVariants.{Enter, Judge}
 use Rattle.cases.specs.declared.fault.CaseRefusal.{CaseRefusal}
 use Rattle.cases.specs.declared.field.Entry.{Entry}
 use Rattle.cases.specs.Contents.{Item}
-use Rattle.cases.specs.Fields.{Leads}
 use Rattle.cases.specs.Steps.{Stepped, Steps, call_item}
 use Rattle.cases.specs.Steps as step
 use Rattle.case_lines.specs.Lines.{refusal_line}

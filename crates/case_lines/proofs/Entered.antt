@@ -1,5 +1,5 @@
 -- Entries as the listing has them.
-use Rattle.std.proofs.Common.{◌≡◌, ℕ, List, ℤ, Result, sym, subst}
+use Rattle.std.proofs.Common.{◌≡◌, ℕ, List, ℤ, Result, subst}
 use Rattle.runs.specs.States.{State}
 use Rattle.runs.specs.Jobs.{JobAnswer, JobTurn, enter}
 use Rattle.cases.specs.declared.field.Entry.{Entry}

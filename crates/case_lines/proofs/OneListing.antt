@@ -1,5 +1,5 @@
 -- A case has one listing.
-use Rattle.std.proofs.Common.{◌≡◌, ℕ, ◌<◌, ◌≤◌, List, [], ◌++◌, length, Some, None, Ok, Err, Option, Result, sym, refl, ap, ◌∙◌, subst, arith}
+use Rattle.std.proofs.Common.{◌≡◌, ℕ, List, [], ◌++◌, length, Some, None, Ok, Err, Option, Result, sym, ap, ◌∙◌, subst, arith}
 use Rattle.grades.specs.Kinds.{Kind}
 use Rattle.grades.specs.Ranges.{Span}
 use Rattle.grades.specs.Truths.{truths}
@@ -9,18 +9,18 @@ use Rattle.meaning.specs.Marks.{Marked}
 use Rattle.meaning.specs.Outcomes.{outcome_of_lem}
 use Rattle.meaning.proofs.Pinned.{lists_same}
 use Rattle.runs.specs.States.{State, opened, line_count, readings_of}
-use Rattle.runs.specs.Jobs.{JobAnswer, JobTurn, enter}
+use Rattle.runs.specs.Jobs.{enter}
 use Rattle.runs.specs.Calls.{judge_asks, mark_asks, JudgeTurn, Marking, MarkTurn}
 use Rattle.runs.proofs.Unique.{one_failing, job_one}
 use Rattle.cases.specs.declared.fault.CaseRefusal.{CaseRefusal}
 use Rattle.cases.specs.declared.field.Entry.{Entry}
 use Rattle.cases.specs.Contents.{Item, entry, tick}
-use Rattle.cases.specs.Headings.{Opened, Opens}
-use Rattle.cases.specs.Steps.{Sized, Stepped, Steps}
+use Rattle.cases.specs.Headings.{Opened}
+use Rattle.cases.specs.Steps.{Sized, Stepped}
 use Rattle.cases.proofs.OneReading.{one_opening, one_step}
 use Rattle.case_lines.specs.Lines.{refused_line, refusal_line, verdict_line, mark_lines, entry_text}
 use Rattle.case_lines.specs.Calls.{Enters}
-use Rattle.case_lines.specs.Listings.{Ticks, no_truth, no_margin, no_marks, verdict, Does, enters, ticks, Lists, ended, refused, does, Lent, Listing, too_long, no_heading, listed}
+use Rattle.case_lines.specs.Listings.{Ticks, no_truth, no_margin, no_marks, verdict, Does, enters, ticks, Lists, ended, refused, does, too_long, no_heading, listed}
 use Rattle.case_lines.specs.Laws.{OneListing}
 
 apart : {A : Type 0} (x : A) (n : ℕ) → ◌≡◌ {A = Result A ℕ} (Ok x) (Err n) → ⊥

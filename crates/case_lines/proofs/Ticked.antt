@@ -1,6 +1,5 @@
 -- Ticks as the listing has them.
-use Rattle.std.proofs.Common.{◌≡◌, ℕ, ◌-◌, min, List, ◌++◌, length, take, ℤ, Ok, Err, Result, sym, refl, ap, ◌∙◌, subst, append_assoc, arith}
-use native.Mathlib.Nat.{sub-zero}
+use Rattle.std.proofs.Common.{◌≡◌, ℕ, List, ◌++◌, length, ℤ, Ok, Err, Result, ap, ◌∙◌, subst, append_assoc}
 use Rattle.grades.specs.Ranges.{Span}
 use Rattle.grades.specs.Truths.{truths}
 use Rattle.grades.specs.Margins.{margins}

@@ -2,7 +2,7 @@
 use Rattle.std.specs.Prelude.{◌≡◌, ℕ, List, [], ◌++◌, length, Some, None, Ok, Err}
 use Rattle.grades.specs.Ranges.{Span}
 use Rattle.grades.specs.Truths.{truths}
-use Rattle.grades.specs.Margins.{Level, margins}
+use Rattle.grades.specs.Margins.{margins}
 use Rattle.rules.specs.declared.row.Row.{Row}
 use Rattle.meaning.specs.Outcomes.{outcome_of_lem}
 use Rattle.runs.specs.States.{State, opened, line_count}

@@ -9,7 +9,7 @@ ghost use Rattle.case_lines.specs.Calls.{Enters};
 use crate::writing::write_refused;
 use cases::field::Entry;
 use jobs::job::Job;
-use std::fmt;
+use std::alloc::AllocError;
 
 // Enters a reading; only a refusal is written.
 pub(crate) fn write_entry<'a>(
@@ -17,7 +17,7 @@ pub(crate) fn write_entry<'a>(
     job: &mut Job<'a>,
     field: usize,
     entry: Entry,
-) -> fmt::Result
+) -> Result<(), AllocError>
     ensures { AddsSome (string_bytes text.old) result (Enters field entry (state_of job.old) (state_of job.new)) (string_bytes text.new) }
 {
     let reply = job.enter(entry.line, entry.from, entry.to, entry.lower, entry.upper);

@@ -23,7 +23,6 @@ use meaning::reading::Reading;
 use pieces::piece::Piece;
 use rules::rule::Rule;
 use std::alloc::{AllocError, Global};
-use std::fmt;
 
 // Carries out one field, and writes what it prints.
 fn write_step<'a>(
@@ -35,7 +34,7 @@ fn write_step<'a>(
     margins: &mut [Piece<Range<Margin>>],
     wants: &mut [Piece<bool>],
     marks: &mut [Mark],
-) -> fmt::Result
+) -> Result<(), AllocError>
     ensures { AddsSome (string_bytes text.old) result (Does (length truths.old) (length margins.old) (length wants.old) (length marks.old) (table_of rule.now) step.field (call_item step.call) (state_of job.old) (state_of job.new)) (string_bytes text.new) }
 {
     match step.call {
@@ -56,7 +55,7 @@ fn write_steps<'a, 'b>(
     margins: &mut [Piece<Range<Margin>>],
     wants: &mut [Piece<bool>],
     marks: &mut [Mark],
-) -> fmt::Result
+) -> Result<(), AllocError>
     ensures { AddsSome (string_bytes text.old) result (Lists (length truths.old) (length margins.old) (length wants.old) (length marks.old) (table_of rule.now) (next_of reader.old) (state_of job.old) (left_of reader.old)) (string_bytes text.new) }
 {
     loop {
@@ -80,7 +79,7 @@ fn write_case(
     margins: &mut [Piece<Range<Margin>>],
     wants: &mut [Piece<bool>],
     marks: &mut [Mark],
-) -> fmt::Result
+) -> Result<(), AllocError>
     ensures { AddsSome (string_bytes text.old) result (Listing (lent_cells (length pieces.old) (length truths.old) (length margins.old) (length wants.old) (length marks.old)) case.now) (string_bytes text.new) }
 {
     if let Err(refusal) = check_size(case) {
@@ -121,8 +120,6 @@ pub fn list_case<'a>(
         wants,
         marks,
     } = cells;
-    match write_case(&mut text, case, pieces, truths, margins, wants, marks) {
-        Ok(()) => Ok(text),
-        Err(_) => Err(AllocError),
-    }
+    write_case(&mut text, case, pieces, truths, margins, wants, marks)?;
+    Ok(text)
 }

@@ -2,7 +2,7 @@
 ghost use Rattle.std.specs.Prelude.{◌++◌, length, string_bytes};
 ghost use Rattle.rules.specs.Texts.{table_of};
 ghost use Rattle.jobs.specs.Jobs.{state_of};
-ghost use Rattle.grades.specs.Truths.{truths as truth-kind};
+ghost use Rattle.grades.specs.Truths.{truths as truth_kind};
 ghost use Rattle.grades.specs.Worth.{worth};
 ghost use Rattle.meaning.specs.Outcomes.{outcome_of_lem};
 ghost use Rattle.case_lines.specs.Lines.{verdict_line, mark_lines};
@@ -17,7 +17,7 @@ use jobs::job::Job;
 use meaning::mark::Mark;
 use pieces::piece::Piece;
 use rules::rule::Rule;
-use std::fmt;
+use std::alloc::AllocError;
 use verdicts::judging::judge;
 use verdicts::marking::mark;
 
@@ -28,8 +28,8 @@ fn write_told(
     verdict: Range<Truth>,
     margin: Range<Margin>,
     marks: &[Mark],
-) -> fmt::Result
-    ensures { Adds (string_bytes text.old) result (verdict_line tick (outcome_of_lem (worth truth-kind (λ t. t.holds) verdict)) margin.lower.number margin.upper.number (length marks.now) ++ mark_lines marks.now) (string_bytes text.new) }
+) -> Result<(), AllocError>
+    ensures { Adds (string_bytes text.old) result (verdict_line tick (outcome_of_lem (worth truth_kind (λ t. t.holds) verdict)) margin.lower.number margin.upper.number (length marks.now) ++ mark_lines marks.now) (string_bytes text.new) }
 {
     let lower = margin.lower.number();
     let upper = margin.upper.number();
@@ -48,7 +48,7 @@ pub(crate) fn write_tick<'a>(
     margins: &mut [Piece<Range<Margin>>],
     wants: &mut [Piece<bool>],
     marks: &mut [Mark],
-) -> fmt::Result
+) -> Result<(), AllocError>
     ensures { AddsSome (string_bytes text.old) result (Ticks (length truths.old) (length margins.old) (length wants.old) (length marks.old) (table_of rule.now) field tick (state_of job.now)) (string_bytes text.new) }
 {
     let verdict = match judge(job, rule, tick, truths) {

@@ -12,23 +12,28 @@ use grades::range::Range;
 use grades::truth::Truth;
 use meaning::mark::Mark;
 use meaning::outcome::Outcome;
-use std::fmt;
+use std::alloc::AllocError;
 
 // Refusal `number` of a field.
-pub(crate) fn write_refused(text: &mut String, number: u8, field: usize) -> fmt::Result
+pub(crate) fn write_refused(text: &mut String, number: u8, field: usize) -> Result<(), AllocError>
     ensures { Adds (string_bytes text.old) result (refused_line number field) (string_bytes text.new) }
 {
     writeln!(text, "refused {number} field {field}")
 }
 
 // The same with a byte of the rule.
-fn write_rule_refused(text: &mut String, number: u8, field: usize, byte: usize) -> fmt::Result
+fn write_rule_refused(
+    text: &mut String,
+    number: u8,
+    field: usize,
+    byte: usize,
+) -> Result<(), AllocError>
     ensures { Adds (string_bytes text.old) result (rule_line number field byte) (string_bytes text.new) }
 {
     writeln!(text, "refused {number} field {field} byte {byte}")
 }
 
-pub(crate) fn write_refusal(text: &mut String, refusal: CaseRefusal) -> fmt::Result
+pub(crate) fn write_refusal(text: &mut String, refusal: CaseRefusal) -> Result<(), AllocError>
     ensures { Adds (string_bytes text.old) result (refusal_line refusal) (string_bytes text.new) }
 {
     let number = refusal.fault.number();
@@ -56,14 +61,14 @@ pub(crate) fn write_verdict(
     lower: i32,
     upper: i32,
     marks: usize,
-) -> fmt::Result
+) -> Result<(), AllocError>
     ensures { Adds (string_bytes text.old) result (verdict_line tick outcome lower upper marks) (string_bytes text.new) }
 {
     let outcome = OutcomeText(outcome);
     writeln!(text, "{tick} {outcome} {lower} {upper} {marks}")
 }
 
-fn write_mark(text: &mut String, mark: Mark) -> fmt::Result
+fn write_mark(text: &mut String, mark: Mark) -> Result<(), AllocError>
     ensures { Adds (string_bytes text.old) result (mark_line mark) (string_bytes text.new) }
 {
     let row = mark.row;
@@ -73,7 +78,7 @@ fn write_mark(text: &mut String, mark: Mark) -> fmt::Result
 }
 
 // A line for each mark.
-pub(crate) fn write_marks(text: &mut String, marks: &[Mark]) -> fmt::Result
+pub(crate) fn write_marks(text: &mut String, marks: &[Mark]) -> Result<(), AllocError>
     ensures { Adds (string_bytes text.old) result (mark_lines marks.now) (string_bytes text.new) }
 {
     for k in 0..marks.len() {

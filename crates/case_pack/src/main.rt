@@ -1,4 +1,6 @@
 // Reads the text of a case from standard input, and writes the bytes of the case to standard output.
+#![tactic(auto)]
+
 use case_text::{PackFault, pack};
 use std::alloc::AllocError;
 use std::io;

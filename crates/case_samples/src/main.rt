@@ -1,4 +1,6 @@
 // Packs the sample texts, and prints each one's name and its listing.
+#![tactic(auto)]
+
 ghost use Rattle.std.specs.Prelude.{IfOk, string_bytes};
 ghost use Rattle.case_samples.specs.Samples.{Listed, FaultShown, Shown};
 

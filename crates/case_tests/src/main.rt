@@ -1,4 +1,6 @@
 // Runs cases at the edges of their rules, and prints whether each lists what it should.
+#![tactic(auto)]
+
 mod example;
 mod examples;
 

@@ -3,7 +3,7 @@ use Rattle.std.proofs.Common.{◌≡◌, ℕ, List, [], ◌∷◌, ◌++◌, len
 use mathlib.Core.List.{head-eq_of_cons-eq, tail-eq_of_cons-eq}
 use Rattle.std.proofs.lemmas.List.{append-nil, append_assoc}
 use Rattle.std.proofs.lemmas.Bool.{cases_order}
-use Rattle.std.specs.List.{AllByRecursion as All}
+use Rattle.std.specs.List.{AllByRecursion}
 use Rattle.tokens.specs.Words.{Digit}
 use Rattle.cases.specs.declared.field.Entry.{Entry}
 use Rattle.cases.specs.Contents.{Item, name, rule, entry, tick}
@@ -18,7 +18,7 @@ one_line : (names : List (List ℕ)) (w : List ℕ) (j k : ℕ) → First names 
 one_line names w j k x y = ⊎_elim (λ e. e) (⊎_elim (λ l. absurd (y.first j l x.same)) (λ l. absurd (x.first k l y.same))) (cases_order j k)
 
 no_sign : (w ds : List ℕ) (y : ℤ) → w ≡ 45 ∷ ds → Plain w y → ⊥
-no_sign w ds y e p = let d : All Digit (45 ∷ ds) = subst (All Digit) e p.digits.all in omega (arith, d.0.0)
+no_sign w ds y e p = let d : AllByRecursion Digit (45 ∷ ds) = subst (AllByRecursion Digit) e p.digits.all in omega (arith, d.0.0)
 
 one_reading : (w : List ℕ) (y z : ℤ) → Reading w y → Reading w z → y ≡ z
 one_reading w y z (plain p) (plain q) = p.value ∙ sym q.value

@@ -1,13 +1,13 @@
 -- A reading with and without `-`.
 use Rattle.std.proofs.Common.{◌≡◌, ℕ, List, ◌∷◌, ℤ, Some, None, Option, sym, ap, ◌∙◌, subst, arith}
 use mathlib.Core.List.{head-eq_of_cons-eq, tail-eq_of_cons-eq}
-use Rattle.std.specs.List.{AllByRecursion as All}
+use Rattle.std.specs.List.{AllByRecursion}
 use Rattle.tokens.specs.Words.{Digit}
 use Rattle.case_text.specs.Words.{Plain, Minus, Reading, plain, minus}
 use Rattle.case_text.specs.Parts.{Reads}
 
 no_minus : (w ds : List ℕ) (z : ℤ) → w ≡ 45 ∷ ds → ((y : ℤ) → Minus ds y → ⊥) → Reading w z → ⊥
-no_minus w ds z e none (plain p) = let d : All Digit (45 ∷ ds) = subst (All Digit) e p.digits.all in omega (arith, d.0.0)
+no_minus w ds z e none (plain p) = let d : AllByRecursion Digit (45 ∷ ds) = subst (AllByRecursion Digit) e p.digits.all in omega (arith, d.0.0)
 no_minus w ds z e none (minus {ds = other} f m) = none z (subst (λ (v : List ℕ). Minus v z) (tail-eq_of_cons-eq (sym f ∙ e)) m)
 
 pub minus_reads : (w : List ℕ) (b : ℕ) (ds : List ℕ) (r : Option ℤ) → w ≡ b ∷ ds → b ≡ 45 → Reads (Minus ds) r → Reads (Reading w) r

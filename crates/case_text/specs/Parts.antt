@@ -67,14 +67,14 @@ pub record Adds (bytes : List ℕ) (i : Item) (after : List ℕ) : Type 0 where
   pub says : Says tag body i
 
 -- a line was taken: it was silent, and names and bytes are as they were, or it said an item
-pub record Took (names : List (List ℕ)) (bytes line : List ℕ) (i : Item) (names-after : List (List ℕ)) (after : List ℕ) : Type 0 where
+pub record Took (names : List (List ℕ)) (bytes line : List ℕ) (i : Item) (names_after : List (List ℕ)) (after : List ℕ) : Type 0 where
   pub says : LineSays names line i
-  pub kept : names-after ≡ names ++ named i
+  pub kept : names_after ≡ names ++ named i
   pub adds : Adds bytes i after
 
-pub data Taken (names : List (List ℕ)) (bytes line : List ℕ) (names-after : List (List ℕ)) (after : List ℕ) : Type 0 where
-  passed : Silent line → names-after ≡ names → after ≡ bytes → Taken names bytes line names-after after
-  took : (i : Item) → Took names bytes line i names-after after → Taken names bytes line names-after after
+pub data Taken (names : List (List ℕ)) (bytes line : List ℕ) (names_after : List (List ℕ)) (after : List ℕ) : Type 0 where
+  passed : Silent line → names_after ≡ names → after ≡ bytes → Taken names bytes line names_after after
+  took : (i : Item) → Took names bytes line i names_after after → Taken names bytes line names_after after
 
 abbrev pub LineRefused : List (List ℕ) → List ℕ → ℕ → PackFault → Type 0
 LineRefused names line number (BadLine n) = Bad names line × (n ≡ number)

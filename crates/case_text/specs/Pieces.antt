@@ -1,6 +1,6 @@
 -- The pieces of a text: what stands between the bytes of one kind, as lines between line ends and words between spaces.
 use Rattle.std.specs.Prelude.{◌≡◌, ℕ, cond, List, [], ◌∷◌, ◌++◌, ◌==◌, ◌≢◌}
-use Rattle.std.specs.List.{AllByRecursion as All}
+use Rattle.std.specs.List.{AllByRecursion}
 
 -- a byte in front of the first piece
 abbrev pub onto : ℕ → List (List ℕ) → List (List ℕ)
@@ -20,7 +20,7 @@ abbrev pub words_of : List ℕ → List (List ℕ)
 words_of line = pieces 32 line
 
 abbrev pub Without : ℕ → List ℕ → Type 0
-Without c bs = All (λ b. b ≢ c) bs
+Without c bs = AllByRecursion (λ b. b ≢ c) bs
 
 -- front stands before the first c, and rest behind it
 pub record Cut (c : ℕ) (whole front rest : List ℕ) : Type 0 where

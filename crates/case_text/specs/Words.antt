@@ -1,6 +1,6 @@
 -- The words of a line: names, whole numbers and readings.
-use Rattle.std.specs.Prelude.{◌≡◌, ℕ, ◌<◌, ◌≤◌, List, [], ◌∷◌, length, get_or, ℤ, pos, neg_ℤ, ◌≢◌, slice_index_or}
-use Rattle.std.specs.List.{AllByRecursion as All}
+use Rattle.std.specs.Prelude.{◌≡◌, ℕ, ◌<◌, ◌≤◌, List, [], ◌∷◌, length, ℤ, pos, neg_ℤ, ◌≢◌, slice_index_or}
+use Rattle.std.specs.List.{AllByRecursion}
 use Rattle.tokens.specs.Words.{Digit, decimal}
 use Rattle.cases.specs.declared.field.Entry.{Entry}
 use Rattle.case_text.specs.Pieces.{Without, words_of}
@@ -13,7 +13,7 @@ pub record LineName (w : List ℕ) : Type 0 where
 
 -- 1 to 10 digits; zeros may lead
 pub record Digits (w : List ℕ) : Type 0 where
-  pub all : All Digit w
+  pub all : AllByRecursion Digit w
   pub some : 0 < length w
   pub short : length w ≤ 10
 
@@ -42,7 +42,7 @@ pub data Reading (w : List ℕ) (z : ℤ) : Type 0 where
 pub record First (names : List (List ℕ)) (w : List ℕ) (k : ℕ) : Type 0 where
   pub byte : k < 256
   pub there : k < length names
-  pub same : get_or names k [] ≡ w
+  pub same : slice_index_or names k [] ≡ w
   pub first : (j : ℕ) → j < k → slice_index_or names j [] ≢ w
 
 -- five words with single spaces between them: a name, two whole numbers and two readings

@@ -1,4 +1,6 @@
 // Cases that a person can write: a text whose lines are packed into the fields of a case.
+#![tactic(auto)]
+
 pub mod fault;
 mod field;
 pub mod laws;

@@ -1,6 +1,6 @@
 // The numbers of a text.
 ghost use Rattle.std.specs.Prelude.{◌≡◌, Decides};
-ghost use Rattle.std.specs.List.{AllByRecursion as All};
+ghost use Rattle.std.specs.List.{AllByRecursion};
 ghost use Rattle.tokens.specs.Words.{Digit, decimal};
 ghost use Rattle.case_text.specs.Words.{Digits, Whole, Plain, Minus, Reading};
 ghost use Rattle.case_text.specs.Parts.{Reads};
@@ -23,7 +23,7 @@ fn is_digit(byte: u8) -> bool
 }
 
 fn all_digits(word: &[u8]) -> bool
-    ensures { Decides result (All Digit word.now) }
+    ensures { Decides result (AllByRecursion Digit word.now) }
 {
     for byte in word {
         if !is_digit(*byte) {

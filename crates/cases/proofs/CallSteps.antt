@@ -1,5 +1,5 @@
 -- What the fields behind the rule answer, one by one.
-use Rattle.std.proofs.Common.{◌≡◌, ℕ, ◌+◌, List, Some, None, Ok, Err, sym, refl, ap, ◌∙◌, subst}
+use Rattle.std.proofs.Common.{◌≡◌, ℕ, ◌+◌, List, Some, Ok, Err, sym, refl, ap, ◌∙◌, subst}
 use Rattle.cases.specs.declared.call.Call.{Call}
 use Rattle.cases.specs.declared.call.Call.TheVariants.{Enter, Judge}
 use Rattle.cases.specs.declared.fault.CaseFault.{CaseFault}
@@ -8,7 +8,7 @@ use Rattle.cases.specs.Fields.{Leads}
 use Rattle.cases.specs.Contents.{Item, Says, Wrong}
 use Rattle.cases.specs.Orders.{Follows}
 use Rattle.cases.specs.Headings.{refusal}
-use Rattle.cases.specs.Steps.{Stepped, Steps, wrong, misplaced, step, call_item, Called}
+use Rattle.cases.specs.Steps.{Steps, wrong, misplaced, step, call_item, Called}
 
 pub follows : (c : Call) → Follows (call_item c)
 follows (Enter e) = tt

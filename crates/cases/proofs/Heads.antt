@@ -8,11 +8,10 @@ use Rattle.rules.specs.Texts.{table_of}
 use Rattle.cases.specs.declared.fault.CaseFault.{CaseFault}
 use Rattle.cases.specs.declared.fault.CaseRefusal.{CaseRefusal}
 use Rattle.cases.specs.declared.fault.CaseFault.TheVariants.{TooLong, BadField, Misplaced, Rule}
-use Rattle.cases.specs.declared.field.Entry.{Entry}
 use Rattle.cases.specs.Fields.{Leads}
 use Rattle.cases.specs.Contents.{Item, name, rule, entry, tick, Says, a_name, a_rule, an_entry, a_tick, Wrong}
-use Rattle.cases.specs.Orders.{Admits, Stands}
-use Rattle.cases.specs.Headings.{refusal, Opened, Opens, wrong, misplaced, named, no_rule, ruled, Head, NameTaken, RuleTaken, Refuses}
+use Rattle.cases.specs.Orders.{Stands}
+use Rattle.cases.specs.Headings.{refusal, Opened, Opens, wrong, misplaced, named, no_rule, ruled, Head, RuleTaken, Refuses}
 
 -- a name's field holds the name
 word : Item → List ℕ

@@ -1,8 +1,7 @@
 -- Fields that are put into bytes are read again.
-use Rattle.std.proofs.Common.{◌≡◌, ℕ, ◌+◌, ◌-◌, ◌*◌, ◌/◌, ◌%◌, ◌<◌, ◌≤◌, true, false, cond, ltb, List, [], ◌∷◌, ◌++◌, length, ℤ, pos, negsuc, ◌≤ℤ◌, sym, refl, ap, ◌∙◌, arith}
+use Rattle.std.proofs.Common.{◌≡◌, ℕ, ◌-◌, ◌/◌, ◌%◌, ◌≤◌, length, ℤ, pos, negsuc, sym, refl, ap, ◌∙◌, arith}
 use Rattle.std.proofs.lemmas.Int.{ints}
 use Rattle.std.proofs.lemmas.Bool.{lt-ltb, le-ltb, cond-true, cond-false}
-use Rattle.cases.specs.declared.field.Entry.{Entry}
 use Rattle.cases.specs.Numbers.{big_endian, complement}
 use Rattle.cases.specs.Contents.{a_name, a_rule, an_entry, a_tick, entry, tick}
 use Rattle.cases.specs.Laws.{four_bytes, bits_of, Fits32, FieldsRead, NamesRead, RulesRead, EntriesRead, TicksRead}

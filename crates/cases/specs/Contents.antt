@@ -1,5 +1,5 @@
 -- What a field says, by its tag and its body.
-use Rattle.std.specs.Prelude.{◌≡◌, ℕ, ◌<◌, ◌≤◌, List, length, ℤ, Ok, Err, Result, slice_index}
+use Rattle.std.specs.Prelude.{◌≡◌, ℕ, ◌<◌, ◌≤◌, List, length, Ok, Err, Result, slice_index}
 use Rattle.cases.specs.declared.fault.CaseFault.{CaseFault}
 use Rattle.cases.specs.declared.fault.CaseFault.TheVariants.{BadField}
 use Rattle.cases.specs.declared.field.Entry.{Entry}

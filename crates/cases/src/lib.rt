@@ -1,4 +1,6 @@
 // Cases: line names, a rule, and then entries and ticks, as fields of one run of bytes.
+#![tactic(auto)]
+
 pub mod call;
 pub mod fault;
 pub mod field;

@@ -1,6 +1,6 @@
 // The names of a case's lines.
 ghost use Rattle.std.specs.Prelude.{Decides};
-ghost use Rattle.std.specs.List.{AllByRecursion as All};
+ghost use Rattle.std.specs.List.{AllByRecursion};
 ghost use Rattle.tokens.specs.Answers.{texts};
 ghost use Rattle.tokens.specs.Words.{Small, NameByte, Begins, IsName};
 ghost use Rattle.cases.specs.Orders.{Repeated, Admits};
@@ -23,7 +23,7 @@ fn is_name_byte(byte: u8) -> bool
 }
 
 fn all_name_bytes(word: &[u8]) -> bool
-    ensures { Decides result (All NameByte word.now) }
+    ensures { Decides result (AllByRecursion NameByte word.now) }
 {
     for byte in word {
         if !is_name_byte(*byte) {

@@ -1,4 +1,6 @@
 // Reads a case from standard input, and prints its listing.
+#![tactic(auto)]
+
 ghost use Rattle.std.specs.Prelude.{◌≤◌, length, IfOk};
 
 use case_lines::cells::Cells;

@@ -1,5 +1,5 @@
 use Rattle.std.proofs.Common.{ℕ, [], Ok, Err, string_bytes, sym, refl, ap, append-nil, to_z-of_z, w32, SFits, to_z, of_z, rules}
-use Rattle.jobs.specs.Faults.{fault_number, enter_reply}
+use Rattle.jobs.specs.Faults.{enter_reply}
 use Rattle.jobs.specs.Jobs.{state_of}
 use Rattle.case_lines.specs.Lines.{refused_line}
 use Rattle.case_lines.specs.Calls.{Enters}
@@ -12,13 +12,13 @@ returns-in-Ok c =
     let e = c.args.entry in
     let low : SFits w32 e.lower = search rules in
     let high : SFits w32 e.upper = search rules in
-    ([], entered c.args.field e (state_of c.args.job.now) (state_of c.enter_reply.new.self) (to_z w32 (of_z w32 e.lower)) (to_z w32 (of_z w32 e.upper)) (enter_reply (Ok c.in-Ok.field-0)) [] (to_z-of_z low) (to_z-of_z high) c.in-Ok.ensures.turn refl, sym (append-nil (string_bytes c.args.text.now)))
+    ([], entered c.args.field e (state_of c.args.job.now) (state_of c.enter-reply.new.self) (to_z w32 (of_z w32 e.lower)) (to_z w32 (of_z w32 e.upper)) (enter_reply (Ok c.in-Ok.field-0)) [] (to_z-of_z low) (to_z-of_z high) c.in-Ok.ensures.turn refl, sym (append-nil (string_bytes c.args.text.now)))
 
 pub returns-in-Err : goal.returns-in-Err
 returns-in-Err c =
     let e = c.args.entry in
     let low : SFits w32 e.lower = search rules in
     let high : SFits w32 e.upper = search rules in
-    some (Enters c.args.field e (state_of c.args.job.now) (state_of c.enter_reply.new.self)) (string_bytes c.args.text.now) (string_bytes c.write-refused.new.text) c.write-refused.result (refused_line c.number.result c.args.field)
-    (entered c.args.field e (state_of c.args.job.now) (state_of c.enter_reply.new.self) (to_z w32 (of_z w32 e.lower)) (to_z w32 (of_z w32 e.upper)) (enter_reply (Err c.in-Err.fault)) _ (to_z-of_z low) (to_z-of_z high) c.in-Err.ensures.turn (ap (λ (n : ℕ). refused_line n c.args.field) c.number.ensures))
-    c.write-refused.ensures
+    some (Enters c.args.field e (state_of c.args.job.now) (state_of c.enter-reply.new.self)) (string_bytes c.args.text.now) (string_bytes c.write_refused.new.text) c.write_refused.result (refused_line c.number.result c.args.field)
+    (entered c.args.field e (state_of c.args.job.now) (state_of c.enter-reply.new.self) (to_z w32 (of_z w32 e.lower)) (to_z w32 (of_z w32 e.upper)) (enter_reply (Err c.in-Err.fault)) _ (to_z-of_z low) (to_z-of_z high) c.in-Err.ensures.turn (ap (λ (n : ℕ). refused_line n c.args.field) c.number.ensures))
+    c.write_refused.ensures

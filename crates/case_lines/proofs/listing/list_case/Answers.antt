@@ -1,14 +1,8 @@
 use Rattle.std.proofs.Common.{length, string_bytes}
 use Rattle.case_lines.proofs.Whole.{alone}
 use Rattle.case_lines.proofs.listing.list_case.Goals as goal
-use Rattle.case_lines.proofs.listing.list_case.Goals.{in-Ok, in-Err}
 
 pub returns : goal.returns
 returns c =
-    elim c.match-write-case.branch [
-      | in-Ok w ↦
-          rw w.result-is
-          (alone (length c.args.pieces.now) (length c.args.cells.truths.now) (length c.args.cells.margins.now) (length c.args.cells.wants.now) (length c.args.cells.marks.now) c.args.case.now
-          (string_bytes c.new-text.result) (string_bytes c.write-case.new.text) c.new-text.ensures.bytes w.in-Ok.ensures)
-      | in-Err w ↦ rw w.result-is tt
-    ]
+    alone (length c.args.pieces.now) (length c.args.cells.truths.now) (length c.args.cells.margins.now) (length c.args.cells.wants.now) (length c.args.cells.marks.now) c.args.case.now
+    (string_bytes c.new-text.result) (string_bytes c.write_case.new.text) c.new-text.ensures.bytes c.in_ok-write_case.ensures

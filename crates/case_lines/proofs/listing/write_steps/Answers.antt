@@ -17,21 +17,21 @@ loop-next-preserved c =
     onward (length c.args.truths.now) (length c.args.margins.now) (length c.args.wants.now) (length c.args.marks.now) (table_of c.args.rule.now) (next_of c.args.reader.now) (state_of c.args.job.now) (left_of c.args.reader.now) (string_bytes c.args.text.now)
     (next_of c.loop-next.reader) (state_of c.loop-next.job) (left_of c.loop-next.reader) (string_bytes c.loop-next.text) c.loop-next.invariant
     (length c.loop-next.truths) (length c.loop-next.margins) (length c.loop-next.wants) (length c.loop-next.marks) c.loop-next.auto.truths c.loop-next.auto.margins c.loop-next.auto.wants c.loop-next.auto.marks
-    x (state_of c.write-step.new.job) (string_bytes c.write-step.new.text) (subst (λ (o : Option Step). Steps (next_of c.loop-next.reader) (left_of c.loop-next.reader) (step_reply (Ok o) c.step.new.self)) c.in-Some.is c.in-Ok.ensures) c.in-ok-write-step.ensures
+    x (state_of c.write_step.new.job) (string_bytes c.write_step.new.text) (subst (λ (o : Option Step). Steps (next_of c.loop-next.reader) (left_of c.loop-next.reader) (step_reply (Ok o) c.step.new.self)) c.in-Some.is c.in-Ok.ensures) c.in_ok-write_step.ensures
 
 pub loop-next-smaller : goal.loop-next-smaller
 loop-next-smaller c =
     let x : Stepped = record { field = c.in-Some.step.field; item = call_item c.in-Some.step.call; next = next_of c.step.new.self; rest = left_of c.step.new.self } in
     shorter (next_of c.loop-next.reader) (left_of c.loop-next.reader) x (subst (λ (o : Option Step). Steps (next_of c.loop-next.reader) (left_of c.loop-next.reader) (step_reply (Ok o) c.step.new.self)) c.in-Some.is c.in-Ok.ensures)
 
-pub returns-in-default : goal.returns-in-default
-returns-in-default c =
+pub returns-in_default : goal.returns-in_default
+returns-in_default c =
     over (length c.args.truths.now) (length c.args.margins.now) (length c.args.wants.now) (length c.args.marks.now) (table_of c.args.rule.now) (next_of c.args.reader.now) (state_of c.args.job.now) (left_of c.args.reader.now) (string_bytes c.args.text.now)
     (next_of c.loop-next.reader) (state_of c.loop-next.job) (left_of c.loop-next.reader) (string_bytes c.loop-next.text) c.loop-next.invariant
-    (subst (λ (o : Option Step). Steps (next_of c.loop-next.reader) (left_of c.loop-next.reader) (step_reply (Ok o) c.step.new.self)) c.in-default.is c.in-Ok.ensures)
+    (subst (λ (o : Option Step). Steps (next_of c.loop-next.reader) (left_of c.loop-next.reader) (step_reply (Ok o) c.step.new.self)) c.in_default.is c.in-Ok.ensures)
 
 pub returns-in-Err : goal.returns-in-Err
 returns-in-Err c =
     stopped (length c.args.truths.now) (length c.args.margins.now) (length c.args.wants.now) (length c.args.marks.now) (table_of c.args.rule.now) (next_of c.args.reader.now) (state_of c.args.job.now) (left_of c.args.reader.now) (string_bytes c.args.text.now)
     (next_of c.loop-next.reader) (state_of c.loop-next.job) (left_of c.loop-next.reader) (string_bytes c.loop-next.text) c.loop-next.invariant
-    c.write-refusal.result c.in-Err.refusal (string_bytes c.write-refusal.new.text) c.in-Err.ensures c.write-refusal.ensures
+    c.write_refusal.result c.in-Err.refusal (string_bytes c.write_refusal.new.text) c.in-Err.ensures c.write_refusal.ensures

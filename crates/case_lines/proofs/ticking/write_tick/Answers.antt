@@ -8,26 +8,26 @@ use Rattle.case_lines.proofs.ticking.write_tick.Goals as goal
 pub returns-in-Err : goal.returns-in-Err
 returns-in-Err c =
     truth_refused (length c.args.truths.now) (length c.args.margins.now) (length c.args.wants.now) (length c.args.marks.now) (table_of c.args.rule.now) c.args.field c.args.tick (state_of c.args.job.now)
-    (string_bytes c.args.text.now) (string_bytes c.write-refused.new.text) c.write-refused.result _ c.number.result c.number.ensures c.in-Err.ensures.turn.0 c.write-refused.ensures
+    (string_bytes c.args.text.now) (string_bytes c.write_refused.new.text) c.write_refused.result _ c.number.result c.number.ensures c.in-Err.ensures.turn.0 c.write_refused.ensures
 
 pub returns-in-Err-judge : goal.returns-in-Err-judge
 returns-in-Err-judge c =
     margin_refused (length c.args.truths.now) (length c.args.margins.now) (length c.args.wants.now) (length c.args.marks.now) (table_of c.args.rule.now) c.args.field c.args.tick (state_of c.args.job.now)
-    (string_bytes c.args.text.now) (string_bytes c.write-refused-in-Err-judge.new.text) c.write-refused-in-Err-judge.result _ c.in-Ok.ensures.turn.0 _ c.number-in-Err-judge.result c.number-in-Err-judge.ensures c.in-Err-judge.ensures.turn.0 c.write-refused-in-Err-judge.ensures
+    (string_bytes c.args.text.now) (string_bytes c.write_refused-in-Err-judge.new.text) c.write_refused-in-Err-judge.result _ c.in-Ok.ensures.turn.0 _ c.number-in-Err-judge.result c.number-in-Err-judge.ensures c.in-Err-judge.ensures.turn.0 c.write_refused-in-Err-judge.ensures
 
 pub returns-in-Err-mark : goal.returns-in-Err-mark
 returns-in-Err-mark c =
     marks_refused (length c.args.truths.now) (length c.args.margins.now) (length c.args.wants.now) (length c.args.marks.now) (table_of c.args.rule.now) c.args.field c.args.tick (state_of c.args.job.now)
-    (string_bytes c.args.text.now) (string_bytes c.write-refused-in-Err-mark.new.text) c.write-refused-in-Err-mark.result _ c.in-Ok.ensures.turn.0 _ c.in-Ok-judge.ensures.turn.0
-    (length c.judge.new.cells) c.judge.auto.cells _ c.number-in-Err-mark.result c.number-in-Err-mark.ensures c.in-Err-mark.ensures.turn.0 c.write-refused-in-Err-mark.ensures
+    (string_bytes c.args.text.now) (string_bytes c.write_refused-in-Err-mark.new.text) c.write_refused-in-Err-mark.result _ c.in-Ok.ensures.turn.0 _ c.in-Ok-judge.ensures.turn.0
+    (length c.judge.new.cells) c.judge.auto.cells _ c.number-in-Err-mark.result c.number-in-Err-mark.ensures c.in-Err-mark.ensures.turn.0 c.write_refused-in-Err-mark.ensures
 
-pub slice-bounds-write-told-end : goal.slice-bounds-write-told-end
-slice-bounds-write-told-end c =
+pub slice_bounds-write_told-end : goal.slice_bounds-write_told-end
+slice_bounds-write_told-end c =
     let written = c.in-Ok-mark.ensures.cells.1.1.1 in
     omega (arith, written.1, written.2.fits, c.mark.auto.marks)
 
 pub returns : goal.returns
 returns c =
     told (length c.args.truths.now) (length c.args.margins.now) (length c.args.wants.now) (length c.args.marks.now) (table_of c.args.rule.now) c.args.field c.args.tick (state_of c.args.job.now)
-    (string_bytes c.args.text.now) (string_bytes c.write-told.new.text) c.write-told.result _ c.in-Ok.ensures.turn.0 _ c.in-Ok-judge.ensures.turn.0
-    (length c.judge.new.cells) c.judge.auto.cells _ _ (ap (λ (n : ℕ). take n c.mark.new.marks) (sub-zero c.in-Ok-mark.marking.marks)) c.in-Ok-mark.ensures.turn.0 c.write-told.ensures
+    (string_bytes c.args.text.now) (string_bytes c.write_told.new.text) c.write_told.result _ c.in-Ok.ensures.turn.0 _ c.in-Ok-judge.ensures.turn.0
+    (length c.judge.new.cells) c.judge.auto.cells _ _ (ap (λ (n : ℕ). take n c.mark.new.marks) (sub-zero c.in-Ok-mark.marking.marks)) c.in-Ok-mark.ensures.turn.0 c.write_told.ensures

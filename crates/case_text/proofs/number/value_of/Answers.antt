@@ -6,22 +6,22 @@ use Rattle.tokens.proofs.Decimals.{decimal_more}
 use Rattle.case_text.proofs.Tenths.{front_below}
 use Rattle.case_text.proofs.number.value_of.Goals as goal
 
-pub overflow-sub-value : goal.overflow-sub-value
-overflow-sub-value c = (All-get_or Digit _ _ 0 c.loop-digit-test.true c.requires.all).0
+pub overflow_sub-value : goal.overflow_sub-value
+overflow_sub-value c = (All-get_or Digit _ _ 0 c.loop-digit-test.true c.requires.all).0
 
 pub loop-digit-preserved : goal.loop-digit-preserved
 loop-digit-preserved c =
     let digits = c.args.digits.now in
     ap (λ n. n * 10 + (get_or digits c.loop-digit.digit-index 0 - 48)) c.loop-digit.invariant ∙ sym (decimal_more digits _ c.loop-digit-test.true)
 
-pub overflow-mul-value : goal.overflow-mul-value
-overflow-mul-value c =
+pub overflow_mul-value : goal.overflow_mul-value
+overflow_mul-value c =
     let digits = c.args.digits.now in
     let i = c.loop-digit.digit-index in
     omega (arith, c.loop-digit.invariant, decimal_more digits i c.loop-digit-test.true, front_below digits (i + 1) c.requires)
 
-pub overflow-add-value : goal.overflow-add-value
-overflow-add-value c =
+pub overflow_add-value : goal.overflow_add-value
+overflow_add-value c =
     let digits = c.args.digits.now in
     let i = c.loop-digit.digit-index in
     omega (arith, c.loop-digit.invariant, decimal_more digits i c.loop-digit-test.true, front_below digits (i + 1) c.requires)

@@ -10,11 +10,11 @@ use Rattle.case_text.proofs.packing.take_line.Goals as goal
 pub put-requires : goal.put-requires
 put-requires c = fits_said _ _ _ c.in-Some.ensures
 
-pub returns-in-default : goal.returns-in-default
-returns-in-default c = (
+pub returns-in_default : goal.returns-in_default
+returns-in_default c = (
   record {
-    loud = λ s. both_ways _ c.if-is-silent.false (c.is-silent.ensures.1 s);
-    none = subst (λ (v : List (List ℕ)). SaysNone v c.args.line.now) (ap texts c.as-slice.ensures.value) c.in-default.ensures;
+    loud = λ s. both_ways _ c.if-is_silent.false (c.is_silent.ensures.1 s);
+    none = subst (λ (v : List (List ℕ)). SaysNone v c.args.line.now) (ap texts c.as_slice.ensures.value) c.in_default.ensures;
   },
   refl,
 )
@@ -24,7 +24,7 @@ returns c =
     took
     (item_of c.in-Some.content)
     (record {
-      says = subst (λ (v : List (List ℕ)). LineSays v c.args.line.now (item_of c.in-Some.content)) (ap texts c.as-slice.ensures.value) c.in-Some.ensures;
-      kept = c.in-ok-keep.ensures;
-      adds = c.in-ok-put.ensures;
+      says = subst (λ (v : List (List ℕ)). LineSays v c.args.line.now (item_of c.in-Some.content)) (ap texts c.as_slice.ensures.value) c.in-Some.ensures;
+      kept = c.in_ok-keep.ensures;
+      adds = c.in_ok-put.ensures;
     })

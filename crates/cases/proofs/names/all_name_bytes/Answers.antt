@@ -1,5 +1,5 @@
 use Rattle.std.proofs.Common.{refl, subst}
-use Rattle.std.specs.List.{AllByRecursion as All}
+use Rattle.std.specs.List.{AllByRecursion}
 use Rattle.std.proofs.ByRecursion.{All-more, All-get_or}
 use Rattle.std.proofs.lemmas.List.{take_all}
 use Rattle.std.proofs.lemmas.Bool.{both_ways, false≢true}
@@ -7,11 +7,11 @@ use Rattle.tokens.specs.Words.{NameByte}
 use Rattle.cases.proofs.names.all_name_bytes.Goals as goal
 
 pub loop-byte-preserved : goal.loop-byte-preserved
-loop-byte-preserved c = All-more NameByte c.args.word.now c.loop-byte.byte-index 0 c.loop-byte-test.true c.loop-byte.invariant (c.is-name-byte.ensures.0 c.if-not-is-name-byte.false)
+loop-byte-preserved c = All-more NameByte c.args.word.now c.loop-byte.byte-index 0 c.loop-byte-test.true c.loop-byte.invariant (c.is_name_byte.ensures.0 c.if-not-is_name_byte.false)
 
-pub returns-then-not-is-name-byte : goal.returns-then-not-is-name-byte
-returns-then-not-is-name-byte c =
-    (λ e. absurd (false≢true e), λ all. absurd (both_ways _ c.if-not-is-name-byte.true (c.is-name-byte.ensures.1 (All-get_or NameByte c.args.word.now c.loop-byte.byte-index 0 c.loop-byte-test.true all))))
+pub returns-then-not-is_name_byte : goal.returns-then-not-is_name_byte
+returns-then-not-is_name_byte c =
+    (λ e. absurd (false≢true e), λ all. absurd (both_ways _ c.if-not-is_name_byte.true (c.is_name_byte.ensures.1 (All-get_or NameByte c.args.word.now c.loop-byte.byte-index 0 c.loop-byte-test.true all))))
 
 pub returns : goal.returns
-returns c = (λ e. subst (All NameByte) (take_all c.loop-byte.byte-index c.args.word.now c.loop-byte-test.false) c.loop-byte.invariant, λ all. refl)
+returns c = (λ e. subst (AllByRecursion NameByte) (take_all c.loop-byte.byte-index c.args.word.now c.loop-byte-test.false) c.loop-byte.invariant, λ all. refl)

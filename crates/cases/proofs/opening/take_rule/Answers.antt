@@ -6,10 +6,10 @@ use Rattle.cases.proofs.opening.take_rule.Goals as goal
 pub returns-then-names-eq0 : goal.returns-then-names-eq0
 returns-then-names-eq0 c some = omega (arith, length-map c.args.names.now (λ x. x.now))
 
-pub returns-in-err-rule : goal.returns-in-err-rule
-returns-in-err-rule c =
-    let p = err_from_is_err_and c.from-residual.result c.from-residual.ensures.1 in
-    rw (p.1, p.2) (omega (arith, length-map c.args.names.now (λ x. x.now)), c.in-err-rule.ensures)
+pub returns-in_err-rule : goal.returns-in_err-rule
+returns-in_err-rule c =
+    let p = err_from_is_err_and c.from_residual.result c.from_residual.ensures.1 in
+    rw (p.1, p.2) (omega (arith, length-map c.args.names.now (λ x. x.now)), c.in_err-rule.ensures)
 
 pub returns : goal.returns
-returns c = (omega (arith, length-map c.args.names.now (λ x. x.now)), c.in-ok-rule.ensures)
+returns c = (omega (arith, length-map c.args.names.now (λ x. x.now)), c.in_ok-rule.ensures)

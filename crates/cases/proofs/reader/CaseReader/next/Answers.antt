@@ -7,15 +7,15 @@ returns-then-here-eq0 c =
     let none = none_left c.args.self.now.bytes.now c.args.self.now.at c.if-here-eq0.true in
     (none, none, refl)
 
-pub returns-in-default : goal.returns-in-default
-returns-in-default c = (cut_front c.args.self.now.bytes.now c.args.self.now.at (omega arith) (omega (arith, ltb-true)), refl)
+pub returns-in_default : goal.returns-in_default
+returns-in_default c = (cut_front c.args.self.now.bytes.now c.args.self.now.at (omega arith) (omega (arith, ltb-true)), refl)
 
 pub returns-then-rest-size : goal.returns-then-rest-size
 returns-then-rest-size c = (cut_body c.args.self.now.bytes.now c.args.self.now.at _ (omega (arith, ltb-false)) refl c.if-rest-size.true, refl)
 
 pub returns : goal.returns
 returns c = record {
-  leads = taken c.args.self.now.bytes.now c.args.self.now.at _ _ (omega arith) refl c.if-rest-size.false c.split-at.ensures.front;
+  leads = taken c.args.self.now.bytes.now c.args.self.now.at _ _ (omega arith) refl c.if-rest-size.false c.split_at.ensures.front;
   number = refl;
   count = refl;
 }
