@@ -1,4 +1,6 @@
 // Holding a job and the judge against the reference: answers, cells and what is left of them.
+#![tactic(auto)]
+
 pub mod cells;
 pub mod entries;
 pub mod judging;

@@ -1,4 +1,6 @@
 // Calls on jobs, rules, ticks and cells at the edges of their limits, and what each is answered.
+#![tactic(auto)]
+
 mod calls;
 mod limits;
 mod report;

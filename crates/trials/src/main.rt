@@ -1,4 +1,6 @@
 // Holds jobs and the judge against the reference, on random rules and random jobs.
+#![tactic(auto)]
+
 mod counts;
 mod dice;
 mod entries;
