@@ -1,7 +1,8 @@
 -- Ordered lists: the test step by step, and what an index found by a search says.
-use Rattle.std.proofs.Common.{◌≡◌, ℕ, zero, suc, ◌+◌, ◌<◌, ◌≤◌, Bool, true, false, cond, eqb, ltb, leb, List, [], ◌∷◌, length, get_or, drop, Some, None, Option, sym, refl, ap, ◌∙◌, subst, arith, ltb-true, le-ltb, lt-ltb, eq-eqb, eqb-true, le-leb}
+use Rattle.std.proofs.Common.{◌≡◌, ℕ, zero, suc, ◌+◌, ◌-◌, ◌<◌, ◌≤◌, Bool, true, false, cond, eqb, ltb, leb, List, [], ◌∷◌, length, get_or, drop, Some, None, Option, sym, refl, ap, ◌∙◌, subst, arith, ltb-true, le-ltb, lt-ltb, eq-eqb, eqb-true, le-leb}
 use borrow.Author.Tests.{lt-leb, clash}
 use Rattle.std.proofs.lemmas.List.{drop_more}
+use Rattle.std.specs.List.Sorted.{IsNonDecreasingBy, IsPartitionPoint}
 use Rattle.pieces.specs.declared.piece.Piece.{Piece}
 use Rattle.pieces.specs.Pieces.{at_from, next_from, ordered, ascending, Found}
 
@@ -36,6 +37,19 @@ module _ {V : Type 0} where
       let more : q.start ≤ (get_or (q ∷ qs) j d).start = ascend q qs j d both.1 (omega arith) in
       omega arith
 
+  rises_from : (p : Piece V) (ps : List (Piece V)) → ascending p.start ps ≡ true → IsNonDecreasingBy (λ (q : Piece V). q.start) (p ∷ ps)
+  rises_from p ps a zero j d le lt = ascend p ps j d a lt
+  rises_from p [] a (suc i) j d le lt = absurd (omega arith)
+  rises_from p (q ∷ qs) a (suc i) zero d le lt = absurd (omega arith)
+  rises_from p (q ∷ qs) a (suc i) (suc j) d le lt = rises_from q qs (cond-true (ltb p.start q.start) (ascending q.start qs) a).1 i j d (omega arith) (omega arith)
+
+  -- what a search by halving asks
+  pub rises : (xs : List (Piece V)) → ordered xs ≡ true → IsNonDecreasingBy (λ (q : Piece V). q.start) xs
+  rises [] e = absurd (clash e)
+  rises (p ∷ ps) e =
+      let both = cond-true (eqb p.start 0) (ascending 0 ps) e in
+      rises_from p ps (subst (λ s. ascending s ps ≡ true) (sym (eqb-true p.start 0 both.0)) both.1)
+
   abbrev pub NextIs : List (Piece V) → ℕ → Piece V → Option ℕ → Type 0
   NextIs xs i d o = (suc i < length xs → o ≡ Some (get_or xs (suc i) d).start) × (length xs ≤ suc i → o ≡ None)
 
@@ -57,3 +71,23 @@ module _ {V : Type 0} where
   found (p ∷ ps) i t d o e w l u n =
       let both = cond-true (eqb p.start 0) (ascending 0 ps) e in
       found_at p ps i t d o (subst (λ s. ascending s ps ≡ true) (sym (eqb-true p.start 0 both.0)) both.1) w l u n
+
+  -- so many pieces start at t or before, and the others behind it
+  abbrev pub Splits : List (Piece V) → ℕ → ℕ → Type 0
+  Splits xs t n = IsPartitionPoint (λ (q : Piece V). leb q.start t ≡ true) (λ (q : Piece V). leb q.start t ≡ false) xs n
+
+  pub splits_some : (xs : List (Piece V)) (t n : ℕ) → ordered xs ≡ true → Splits xs t n → 1 ≤ n
+  splits_some [] t n e s = absurd (clash e)
+  splits_some (p ∷ ps) t zero e s =
+      let z : p.start ≡ 0 = (first (p ∷ ps) e).1 p in
+      absurd (clash (sym (s.1 0 p (omega arith) (omega arith)) ∙ le-leb p.start t (omega arith)))
+  splits_some (p ∷ ps) t (suc n) e s = omega arith
+
+  -- the last piece that starts at t or before is the one in force, and the next change is where the one behind it starts
+  pub found_split : (xs : List (Piece V)) (t n : ℕ) (d : Piece V) (o : Option ℕ) → ordered xs ≡ true → 1 ≤ n → n ≤ length xs →
+      (get_or xs (n - 1) d).start ≤ t → (n < length xs → t < (get_or xs n d).start) → (n < length xs → o ≡ Some (get_or xs n d).start) → (length xs ≤ n → o ≡ None) → Found xs t (get_or xs (n - 1) d).value o
+  found_split xs t zero d o e s l w h u v = absurd (omega (arith, s))
+  found_split xs t (suc m) d o e s l w h u v =
+      let z : suc m - 1 ≡ m = omega arith in
+      subst (λ k. Found xs t (get_or xs k d).value o) (sym z)
+      (found xs m t d o e (omega arith) (subst (λ k. (get_or xs k d).start ≤ t) z w) h (u, v))

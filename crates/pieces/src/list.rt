@@ -1,13 +1,13 @@
 // Piece lists over a slice that someone else holds.
-ghost use Rattle.std.specs.Prelude.{◌≡◌, ◌+◌, ◌<◌, ◌≤◌, true, false, length, MatchOption, slice_index_or};
+ghost use Rattle.std.specs.Prelude.{◌≡◌, ℕ, ◌<◌, ◌≤◌, true, false, length, MatchOption, slice_index_or};
 ghost use Rattle.pieces.specs.Pieces.{ordered, Found};
 
 use crate::piece::Piece;
 
-// The first piece starts at 0, the starts rise, and the last piece goes on for ever.
+// The first piece starts at 0, the starts rise, and the last piece goes on for ever. Who knows that of some pieces puts them in without a walk over them.
 #[derive(Drop)]
 pub struct PieceList<'a, V> {
-    pieces: &'a [Piece<V>],
+    pub pieces: &'a [Piece<V>],
     ghost ok: { ordered pieces.now ≡ true },
 }
 
@@ -15,38 +15,31 @@ pub struct PieceList<'a, V> {
 fn is_ordered<V: Copy>(pieces: &[Piece<V>]) -> bool
     ensures { result ≡ ordered pieces.now }
 {
-    if pieces.len() == 0 || pieces[0].start != 0 {
+    let [first, behind @ ..] = pieces else {
+        return false;
+    };
+    if first.start != 0 {
         return false;
     }
     let mut last = 0;
-    for i in 1..pieces.len() {
-        let start = pieces[i].start;
-        if start <= last {
+    for piece in behind {
+        if piece.start <= last {
             return false;
         }
-        last = start;
+        last = piece.start;
     }
     true
 }
 
-// The index of the piece in force at t, by halving.
-fn place<V: Copy>(pieces: &[Piece<V>], t: u64) -> usize
+// How many pieces start at t or before.
+fn started<V: Copy>(pieces: &[Piece<V>], t: u64) -> usize
     requires { ordered pieces.now ≡ true }
-    ensures within { result < length pieces.now }
-    ensures from { (d : Piece V) → (slice_index_or pieces.now result d).start ≤ t }
-    ensures until { (d : Piece V) → result + 1 < length pieces.now → t < (slice_index_or pieces.now (result + 1) d).start }
+    ensures some { 1 ≤ result }
+    ensures all { result ≤ length pieces.now }
+    ensures before { (k : ℕ) (d : Piece V) → k < result → (slice_index_or pieces.now k d).start ≤ t }
+    ensures behind { (k : ℕ) (d : Piece V) → result ≤ k → k < length pieces.now → t < (slice_index_or pieces.now k d).start }
 {
-    let mut lo: usize = 0;
-    let mut hi: usize = pieces.len();
-    while hi - lo > 1 {
-        let mid = lo + (hi - lo) / 2;
-        if pieces[mid].start as u64 <= t {
-            lo = mid;
-        } else {
-            hi = mid;
-        }
-    }
-    lo
+    pieces.partition_point(|piece| piece.start as u64 <= t)
 }
 
 impl<'a, V: Copy> PieceList<'a, V> {
@@ -66,11 +59,8 @@ impl<'a, V: Copy> PieceList<'a, V> {
         ensures { Found self.now.pieces.now t result.0 result.1 }
     {
         let pieces = self.pieces;
-        let i = place(pieces, t);
-        if i + 1 < pieces.len() {
-            (pieces[i].value, Some(pieces[i + 1].start))
-        } else {
-            (pieces[i].value, None)
-        }
+        let count = started(pieces, t);
+        let next = pieces.get(count).map(|piece| piece.start);
+        (pieces[count - 1].value, next)
     }
 }

@@ -2,7 +2,7 @@
 ghost use Rattle.std.specs.Prelude.{◌≡◌, Bool};
 ghost use Rattle.grades.specs.Kinds.{Tells};
 
-// Values are the same if they stand for the same.
+// Values are the same if they stand for the same, and only then; of equality by `==` no law says so much.
 pub trait Same: Copy {
     ghost Value: { Type 0 };
 

@@ -6,12 +6,9 @@ ghost use Rattle.pieces.specs.Ticks.{sooner, earlier};
 pub fn first_of(one: Option<u32>, other: Option<u32>) -> Option<u32>
     ensures { result ≡ sooner one other }
 {
-    match one {
-        None => other,
-        Some(m) => match other {
-            None => one,
-            Some(n) => Some(m.min(n)),
-        },
+    match (one, other) {
+        (Some(m), Some(n)) => Some(m.min(n)),
+        _ => one.or(other),
     }
 }
 
@@ -19,8 +16,5 @@ pub fn first_of(one: Option<u32>, other: Option<u32>) -> Option<u32>
 pub fn moved_back(next: Option<u32>, by: u32) -> Option<u32>
     ensures { result ≡ earlier next by }
 {
-    match next {
-        None => None,
-        Some(n) => Some(n.saturating_sub(by)),
-    }
+    next.map(|n| n.saturating_sub(by))
 }
