@@ -18,8 +18,8 @@ use meaning::mark::Mark;
 use pieces::piece::Piece;
 use rules::rule::Rule;
 use std::alloc::AllocError;
-use verdicts::judging::judge;
-use verdicts::marking::mark;
+use judge::judging::judge;
+use judge::marking::mark;
 
 // The verdict's line, and a line for each mark.
 fn write_told(

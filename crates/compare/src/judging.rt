@@ -10,8 +10,8 @@ use reference::values::Values;
 use rules::row::Row;
 use rules::rule::Rule;
 use std::alloc::Global;
-use verdicts::fault::JudgeFault;
-use verdicts::judging::judge;
+use judge::fault::JudgeFault;
+use judge::judging::judge;
 
 // Cells enough for the row lists of each rule that comes.
 pub const ROW_CELLS: usize = 2048;

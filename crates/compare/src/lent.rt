@@ -6,8 +6,8 @@ use meaning::mark::Mark;
 use pieces::piece::Piece;
 use rules::rule::Rule;
 use std::alloc::{AllocError, Global};
-use verdicts::fault::MarkFault;
-use verdicts::marking::{Marking, mark};
+use judge::fault::MarkFault;
+use judge::marking::{Marking, mark};
 
 // How many cells of each kind.
 #[derive(Clone, Copy, Debug)]

@@ -13,8 +13,8 @@ use reference::wants::{WANT_TICKS, Wants};
 use rules::row::Row;
 use rules::rule::Rule;
 use std::alloc::Global;
-use verdicts::fault::MarkFault;
-use verdicts::marking::Marking;
+use judge::fault::MarkFault;
+use judge::marking::Marking;
 
 // Cells enough for each rule that comes.
 pub const AMPLE: Room = Room {

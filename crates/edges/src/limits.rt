@@ -16,7 +16,7 @@ use reference::values::Values;
 use rules::rule::Rule;
 use std::alloc::{AllocError, Global};
 use std::io;
-use verdicts::judging::judge;
+use judge::judging::judge;
 
 // The job has the lines a and b alone.
 static NAMES: [&'static [u8]; 16] = [

@@ -1,3 +1,7 @@
+pub mod Knowns
+pub mod Anys
+pub mod Sights
+pub mod Walks
 pub mod StretchLists
 pub mod RowMarks
 pub mod Overs
@@ -5,6 +9,18 @@ pub mod Goals
 pub mod RowSteps
 pub mod Stacks
 pub mod RowLists
+pub mod Parenthood
+pub mod Fills
+pub mod Standing
 pub mod Filling
 pub mod WantSteps
+pub mod Wanting
+pub mod RowReaches
+pub mod RowWants
+pub mod RowStretches
 pub mod Pinned
+pub mod JudgedTables
+pub mod TestedLines
+pub mod MarkedTables
+pub mod MarkLists
+pub mod WantFilling

@@ -15,12 +15,12 @@ use Rattle.pieces.proofs.Orders.{first}
 use Rattle.pieces.proofs.Shows.{at_shown}
 use Rattle.judge.specs.declared.trial.Trial.{Trial}
 use Rattle.judge.specs.declared.trial.Trial.TheVariants.{Loose, Lowest, Higher}
-use Rattle.judge.specs.Parts.{any}
+use Rattle.judge.specs.Yes.{any}
 use Rattle.judge.specs.Reaches.{sees, holds}
 use Rattle.judge.specs.Signals.{heard}
 use Rattle.judge.specs.Places.{list_at}
 use Rattle.judge.specs.Trials.{tried, range_says, asked}
-use Rattle.judge.specs.Children.{child_says, said, row_says, passed_on}
+use Rattle.judge.specs.Children.{child_says, said, row_says, asks_at, passed_on}
 
 -- an ordered list says the same whatever is in force before it
 list_said : {C : Type 0} (d : C) (ps : List (Piece C)) (ok : ordered ps ≡ true) (t : ℕ) → at_list ps ok t ≡ at_from d ps t
@@ -54,6 +54,11 @@ module _ (K : Kind) {G : Type 0} (value : G → K.Value) where
         let one : (t : ℕ) → at_list want okw t ≡ said want t = λ t. list_said false want okw t in
         let two = trial_said Loose k ps ok e in
         λ i t. one t i && two i t
+
+    -- the same, where the row's want list is one of those in the cells
+    pub asks_read : (starts : List ℕ) (wants : List (Piece Bool)) (i : ℕ) (want : List (Piece Bool)) (okw : ordered want ≡ true) → want ≡ list_at starts wants i → (k : ℕ) (ps : List (Piece (Range G))) (ok : ordered ps ≡ true) → ps ≡ list_at begins ranges k →
+        asked (at_list want okw) (range_says K value Loose ps ok) ≡ asks_at K value begins ranges starts wants k i
+    asks_read starts wants i want okw w k ps ok e = asks_said want okw k ps ok e ∙ ap (λ qs. asked (said qs) (row_says K value begins ranges Loose k)) w
 
     module _ (row r : Row) (is : row ≡ r) (k c limit t : ℕ) (want : List (Piece Bool)) (asks : ℕ → Bool) (alike : asks ≡ asked (said want) (row_says K value begins ranges Loose k)) (v : Bool) (o : Option ℕ) where
       pub passed : Steady (child_says r c asks (row_says K value begins ranges Lowest) (row_says K value begins ranges Higher) limit) t v o → Steady (passed_on K value begins ranges row k c limit (said want)) t v o

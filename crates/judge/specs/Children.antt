@@ -1,5 +1,5 @@
 -- Where a row's child is wanted, as yes or no, from where the row is wanted and not settled.
-use Rattle.std.specs.Prelude.{◌≡◌, ℕ, ◌+◌, ◌<◌, Bool, true, false, cond, List, ◌==◌}
+use Rattle.std.specs.Prelude.{◌≡◌, ℕ, ◌+◌, ◌<◌, Bool, true, false, cond, ◌||◌, List, ◌==◌}
 use Rattle.grades.specs.Kinds.{Kind}
 use Rattle.grades.specs.declared.range.Range.{Range}
 use Rattle.rules.specs.declared.row.Row.{Row}
@@ -8,10 +8,10 @@ use Rattle.pieces.specs.declared.piece.Piece.{Piece}
 use Rattle.pieces.specs.Pieces.{ordered, at_from}
 use Rattle.judge.specs.declared.trial.Trial.{Trial}
 use Rattle.judge.specs.declared.trial.Trial.TheVariants.{Loose, Lowest, Higher}
-use Rattle.judge.specs.Parts.{any}
+use Rattle.judge.specs.Yes.{any}
 use Rattle.judge.specs.Reaches.{sees, holds}
 use Rattle.judge.specs.Trials.{tried, asked}
-use Rattle.judge.specs.Places.{told, Stands, Ready}
+use Rattle.judge.specs.Places.{list_at, told, Stands, Ready}
 
 abbrev pub never : ℕ → Bool
 never t = false
@@ -40,6 +40,26 @@ far (Eventually a b d) = b
 far (Always a b d) = b
 far (Until a b l r) = b
 
+-- the row c is a child of the row
+abbrev pub is_child : Row → ℕ → Bool
+is_child (Test l s m) c = false
+is_child (Not d) c = c == d
+is_child (And l r) c = c == l || c == r
+is_child (Or l r) c = c == l || c == r
+is_child (Eventually a b d) c = c == d
+is_child (Always a b d) c = c == d
+is_child (Until a b l r) c = c == l || c == r
+
+-- the row is a test
+abbrev pub is_test : Row → Bool
+is_test (Test l s m) = true
+is_test (Not d) = false
+is_test (And l r) = false
+is_test (Or l r) = false
+is_test (Eventually a b d) = false
+is_test (Always a b d) = false
+is_test (Until a b l r) = false
+
 module _ (K : Kind) {G : Type 0} (value : G → K.Value) (begins : List ℕ) (ranges : List (Piece (Range G))) where
   -- what the trial says of row c's list at each tick
   abbrev pub row_says : Trial → ℕ → ℕ → Bool
@@ -48,6 +68,10 @@ module _ (K : Kind) {G : Type 0} (value : G → K.Value) (begins : List ℕ) (ra
   -- where the child c of the row number k is wanted, by where the row is
   abbrev pub passed_on : Row → ℕ → ℕ → ℕ → (ℕ → Bool) → ℕ → Bool
   passed_on row k c limit want u = child_says row c (asked want (row_says Loose k)) (row_says Lowest) (row_says Higher) limit u
+
+  -- where the row k is wanted, by its want list, number i, and not settled, by its ranges
+  abbrev pub asks_at : List ℕ → List (Piece Bool) → ℕ → ℕ → ℕ → Bool
+  asks_at starts wants k i = asked (said (list_at starts wants i)) (row_says Loose k)
 
 -- the lists of the row and of its children are there, its wants are in order, and no window goes past the last u32
 pub record Askable {V : Type 0} (row : Row) (k limit : ℕ) (begins : List ℕ) (ranges : List (Piece V)) (want : List (Piece Bool)) : Type 0 where

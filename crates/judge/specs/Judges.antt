@@ -10,6 +10,7 @@ use Rattle.rules.specs.declared.row.Row.{Row}
 use Rattle.meaning.specs.Readings.{Readings}
 use Rattle.meaning.specs.Verdicts.{verdict}
 use Rattle.runs.specs.Calls.{all, RowLists}
+use Rattle.judge.specs.declared.judgement.Judgement.{Judgement}
 
 -- begins has where each of the lists begins in the cells, and behind them where the last ends
 pub record BeginAt {X : Type 0} (begins : List ℕ) (pss : List (List X)) : Type 0 where
@@ -35,7 +36,7 @@ module _ (K : Kind) {G : Type 0} (value : G → K.Value) (rows : List Row) (x : 
   RowsWritten (Ok begins) = (pss : List (List (Piece (Span K.Value)))) × (Complete pss × BeginAt begins pss)
   RowsWritten (Err e) = (pss : List (List (Piece (Span K.Value)))) × CutShort pss
 
-  -- a judgement: done, it answers the last row's range at the tick
-  abbrev pub Judged : {E : Type 0} → ℕ → Result (Range G) E → Type 0
-  Judged tick (Ok r) = (pss : List (List (Piece (Span K.Value)))) × (Complete pss × (worth K value r ≡ verdict K rows x tick))
+  -- a judgement: done, it answers the last row's range at the tick, and tells where each list begins
+  abbrev pub Judged : {E : Type 0} → ℕ → Result (Judgement G) E → Type 0
+  Judged tick (Ok j) = (pss : List (List (Piece (Span K.Value)))) × (Complete pss × BeginAt j.begins pss × (worth K value j.verdict ≡ verdict K rows x tick))
   Judged tick (Err e) = (pss : List (List (Piece (Span K.Value)))) × CutShort pss

@@ -1,5 +1,4 @@
 pub mod Yes
-pub mod Parts
 pub mod Reaches
 pub mod Marks
 pub mod Trials
@@ -7,6 +6,6 @@ pub mod Children
 pub mod Signals
 pub mod Places
 pub mod Judges
-pub mod Sights
-pub mod Knowns
-pub mod Anys
+pub mod Markings
+pub mod Faults
+pub mod Answers

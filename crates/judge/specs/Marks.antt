@@ -35,6 +35,12 @@ module _ (f : ℕ → Bool) (limit row : ℕ) where
   MarkedRow before used after (Ok n) = (ms : List Mark) × ((n ≡ used + length ms) × Put before used ms after × Stretches 0 ms)
   MarkedRow before used after (Err e) = (ms : List Mark) × ((length before ≤ used + length ms) × Put before used ms after × SomeStretches ms)
 
+-- the marks of a row: its stretches if it is a test, and otherwise none
+abbrev pub MarkedTest : {E : Type 0} → Bool → (ℕ → Bool) → ℕ → ℕ → List Mark → ℕ → List Mark → Result ℕ E → Type 0
+MarkedTest true f limit row before used after r = MarkedRow f limit row before used after r
+MarkedTest false f limit row before used after (Ok n) = (n ≡ used) × (after ≡ before)
+MarkedTest false f limit row before used after (Err e) = ⊥
+
 -- some stretch has the tick
 abbrev pub Covered : List Mark → ℕ → Type 0
 Covered [] u = ⊥

@@ -1,6 +1,7 @@
 -- Where a child is wanted. Assumes nothing.
-use Rattle.std.specs.Prelude.{◌≡◌, ℕ, suc, ◌+◌, ◌<◌, ◌≤◌, Bool, true, false, not, ◌&&◌, nat_le}
-use Rattle.judge.specs.Parts.{any}
+use Rattle.std.specs.Prelude.{◌≡◌, ℕ, suc, ◌+◌, ◌<◌, ◌≤◌, max, Bool, true, false, not, ◌&&◌, ◌⊎◌, Option, nat_le}
+use Rattle.pieces.specs.Ticks.{Before, Later}
+use Rattle.judge.specs.Yes.{any}
 
 -- asks: the parent is wanted and not settled; dead: nothing is seen past this tick
 module _ (asks dead : ℕ → Bool) where
@@ -17,15 +18,6 @@ module _ (asks dead : ℕ → Bool) where
   -- w is seen from some tick before n
   abbrev pub Seen : ℕ → ℕ → ℕ → ℕ → Type 0
   Seen a b n w = (t : ℕ) × ((t < n) × Sees a b t w)
-
-  pub record Stretched (limit b p : ℕ) (o : Bool) (after end : ℕ) : Type 0 where
-    pub later : p < after
-    pub within : after ≤ limit
-    pub shut : o ≡ false → (t : ℕ) → p ≤ t → t < after → asks t ≡ true → dead t ≡ true
-    pub wants : o ≡ true → (t : ℕ) → p ≤ t → t < after → asks t ≡ true
-    pub clear : o ≡ true → (k : ℕ) → p ≤ k → k < end → dead k ≡ false
-    pub reaches : o ≡ true → (after ≤ end) × (end ≤ after + b)
-    pub stops : o ≡ true → end < after + b → dead end ≡ true
 
 -- no tick from t to w is dead
 abbrev pub clear : (ℕ → Bool) → ℕ → ℕ → Bool
@@ -45,6 +37,14 @@ pub record Holds (asks dead need : ℕ → Bool) (a b t v : ℕ) : Type 0 where
 abbrev pub holds : (ℕ → Bool) → (ℕ → Bool) → (ℕ → Bool) → ℕ → ℕ → ℕ → ℕ → Bool
 holds asks dead need a b t v = nat_le t v && any (λ w. nat_le v w && (need w && sees asks dead a b t w)) (suc (t + b))
 
--- v is at most b ticks before a tick from s on and before e at which need holds, and not before p
-abbrev pub Back : (ℕ → Bool) → ℕ → ℕ → ℕ → ℕ → ℕ → Type 0
-Back need p b s e v = (w : ℕ) × ((s ≤ w) × (w < e) × (need w ≡ true) × (p ≤ v) × (v ≤ w) × (w ≤ v + b))
+-- v is held from some tick before n
+abbrev pub Held : (ℕ → Bool) → (ℕ → Bool) → (ℕ → Bool) → ℕ → ℕ → ℕ → ℕ → Type 0
+Held asks dead need a b n v = (t : ℕ) × ((t < n) × Holds asks dead need a b t v)
+
+-- Up to o, whether w, the first dead or needed tick from u on, is a needed tick that lies at most b ticks ahead.
+-- Where found is no, w lies further ahead, or is dead; where it is yes, the ticks from w up to o are needed and not dead.
+pub record Ahead (dead need : ℕ → Bool) (b end w u : ℕ) (found : Bool) (o : Option ℕ) : Type 0 where
+  pub later : Later u o
+  pub near : found ≡ true → w ≤ u + b
+  pub good : found ≡ true → (v k : ℕ) → Before o v → w ≤ k → k ≤ max v w → (dead k ≡ false) × (need k ≡ true) × (k < end)
+  pub lost : found ≡ false → (v : ℕ) → Before o v → (v + b < w) ⊎ ((dead w ≡ true) × (v < w))

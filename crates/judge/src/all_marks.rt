@@ -1,41 +1,101 @@
 // The marks of all rows of tests, in the order of rows.
-ghost use Rattle.std.specs.Prelude.{◌≡◌, ℕ, Bool};
-ghost use Rattle.judge.specs.Marks.{MarkedRow, MarkedRows};
+ghost use Rattle.std.specs.Prelude.{◌≡◌, ℕ, ◌-◌, ◌<◌, ◌≤◌, length};
+ghost use Rattle.rules.specs.Rows.{row_at, reach, Sound};
+ghost use Rattle.judge.specs.Places.{Stands};
+ghost use Rattle.judge.specs.Children.{is_test, asks_at};
+ghost use Rattle.judge.specs.Marks.{MarkedTest, MarkedRows};
+ghost use Rattle.judge.specs.Markings.{RangesStand, WantsStand, MarksWritten};
 
+use crate::lines::Lines;
+use crate::rows::listed;
+use crate::stretches::mark_row;
+use crate::tried::Asking;
+use grades::grade::Grade;
+use grades::range::Range;
 use meaning::mark::Mark;
+use pieces::piece::Piece;
 use pieces::sweep::Full;
+use rules::row::Row;
 
-pub(crate) trait Tests {
-    ghost most: { Self → ℕ };
-
-    ghost tests: { Self → ℕ → Bool };
-
-    ghost asks: { Self → ℕ → ℕ → Bool };
-
-    ghost limit: { Self → ℕ → ℕ };
-
-    fn count(&self) -> usize
-        ensures { result ≡ most self.now };
-
-    fn is_test(&self, row: usize) -> bool
-        ensures { result ≡ tests self.now row };
-
-    fn mark_into(&self, row: usize, marks: &mut [Mark], used: usize) -> Result<usize, Full>
-        ensures { MarkedRow (asks self.now row) (limit self.now row) row marks.old used marks.new result };
+// The marks of the row number k, behind the first `used`: none, unless it is a test. Its want list is number `at`.
+fn mark_test<G: Grade>(
+    row: Row,
+    k: usize,
+    at: usize,
+    limit: u32,
+    begins: &[usize],
+    ranges: &[Piece<Range<G>>],
+    starts: &[usize],
+    wants: &[Piece<bool>],
+    marks: &mut [Mark],
+    used: usize,
+) -> Result<usize, Full>
+    requires ranges { Stands begins.now ranges.now k }
+    requires wants { Stands starts.now wants.now at }
+    ensures { MarkedTest (is_test row) (asks_at G.Grade.kind G.Grade.value begins.now ranges.now starts.now wants.now k at) limit k marks.old used marks.new result }
+{
+    match row {
+        Row::Test { .. } => {
+            let asking = Asking {
+                want: listed(wants, starts, at),
+                range: listed(ranges, begins, k),
+            };
+            mark_row(&asking, limit, k, marks, used)
+        }
+        _ => Ok(used),
+    }
 }
 
-pub(crate) fn mark_rows<T: Tests>(table: &T, marks: &mut [Mark]) -> Result<usize, Full>
-    ensures { MarkedRows (T.Tests.tests table.now) (T.Tests.asks table.now) (T.Tests.limit table.now) (T.Tests.most table.now) marks.old marks.new result }
+// The marks of all rows below the limit, by the lists of their ranges and of where they are wanted.
+fn mark_rows<G: Grade>(
+    rows: &[Row],
+    limit: u32,
+    begins: &[usize],
+    ranges: &[Piece<Range<G>>],
+    starts: &[usize],
+    wants: &[Piece<bool>],
+    marks: &mut [Mark],
+) -> Result<usize, Full>
+    requires ranges { (k : ℕ) → k < length rows.now → Stands begins.now ranges.now k }
+    requires wants { (k : ℕ) → k < length rows.now → Stands starts.now wants.now (length rows.now - 1 - k) }
+    ensures { MarkedRows (λ k. is_test (row_at rows.now k)) (λ k. asks_at G.Grade.kind G.Grade.value begins.now ranges.now starts.now wants.now k (length rows.now - 1 - k)) (λ k. limit) (length rows.now) marks.old marks.new result }
 {
     let mut used = 0;
-    let count = table.count();
-    for row in 0..count {
-        if table.is_test(row) {
-            match table.mark_into(row, marks, used) {
-                Ok(n) => used = n,
-                Err(_) => return Err(Full),
-            }
-        }
+    for k in 0..rows.len() {
+        used = mark_test(
+            rows[k],
+            k,
+            rows.len() - 1 - k,
+            limit,
+            begins,
+            ranges,
+            starts,
+            wants,
+            marks,
+            used,
+        )?;
     }
     Ok(used)
+}
+
+// The marks of a judged table whose want lists are written; `ahead` is how many ticks ahead it looks.
+pub(crate) fn write_marks<G: Grade, L: Lines>(
+    lines: &L,
+    rows: &[Row],
+    tick: u32,
+    ahead: u32,
+    begins: &[usize],
+    ranges: &[Piece<Range<G>>],
+    starts: &[usize],
+    wants: &[Piece<bool>],
+    marks: &mut [Mark],
+) -> Result<usize, Full>
+    requires sound { Sound rows.now }
+    requires tick { tick ≤ 500000000 }
+    requires ahead { ahead ≡ reach rows.now }
+    requires stand { RangesStand G.Grade.kind rows.now (L.Lines.x lines.now) G.Grade.value begins.now ranges.now }
+    requires wants { WantsStand G.Grade.kind rows.now (L.Lines.x lines.now) tick starts.now wants.now }
+    ensures { MarksWritten G.Grade.kind rows.now (L.Lines.x lines.now) tick marks.old marks.new result }
+{
+    mark_rows(rows, tick + ahead + 1, begins, ranges, starts, wants, marks)
 }

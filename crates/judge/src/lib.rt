@@ -2,17 +2,22 @@
 #![tactic(auto)]
 
 mod all_marks;
+mod all_wants;
 mod child;
-mod left;
+pub mod fault;
+mod job_lines;
+mod judgement;
+pub mod judging;
 mod limits;
 mod lines;
 mod listed;
 mod look;
 mod look_up;
-mod parts;
+pub mod marking;
+pub mod number;
+mod ors;
+mod parents;
 mod place;
-mod reach;
-mod right;
 mod rows;
 mod source;
 mod steps;
@@ -21,6 +26,8 @@ mod table;
 mod trial;
 mod tried;
 mod until;
+mod want;
+mod want_sources;
 mod window;
 mod yes;
 mod yesno;

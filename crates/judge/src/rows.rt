@@ -11,6 +11,7 @@ ghost use Rattle.judge.specs.Places.{list_at, told, Stands, Ready};
 
 use crate::limits::tested;
 use crate::lines::Lines;
+use crate::listed::Listed;
 use crate::source::{Source, sweep_in};
 use crate::steps::{Way, not_step, pair_step, window_step};
 use crate::until::until_step;
@@ -27,6 +28,19 @@ pub(crate) fn list<'a, V: Copy>(cells: &'a [Piece<V>], begins: &[usize], c: usiz
     ensures in_order { ordered result.now ≡ true }
 {
     &cells[begins[c]..begins[c + 1]]
+}
+
+// The list of the row c, to be looked up.
+pub(crate) fn listed<'a, V: Copy>(
+    cells: &'a [Piece<V>],
+    begins: &[usize],
+    c: usize,
+) -> Listed<'a, V>
+    requires { Stands begins.now cells.now c }
+    ensures { result.pieces.now ≡ list_at begins.now cells.now c }
+{
+    let pieces = list(cells, begins, c);
+    Listed { pieces }
 }
 
 // One step of a row.

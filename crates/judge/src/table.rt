@@ -4,6 +4,7 @@ ghost use Rattle.rules.specs.Rows.{Sound};
 ghost use Rattle.pieces.specs.Ticks.{Settles};
 ghost use Rattle.judge.specs.Judges.{RowsWritten, Judged};
 
+use crate::judgement::Judgement;
 use crate::lines::Lines;
 use crate::look::look;
 use crate::rows::{list, write_row};
@@ -32,18 +33,18 @@ pub(crate) fn write_rows<G: Grade, L: Lines>(
     Ok(begins)
 }
 
-// Judges a sound table: writes the lists of all rows, and gives the last row's range at the tick.
+// Judges a sound table: writes the lists of all rows, and gives the last row's range at the tick and where the lists begin.
 pub(crate) fn judge_rows<G: Grade, L: Lines>(
     lines: &L,
     rows: &[Row],
     tick: u32,
     cells: &mut [Piece<Range<G>>],
-) -> Result<Range<G>, Full>
+) -> Result<Judgement<G>, Full>
     requires sound { Sound rows.now }
     requires settles { (line : ℕ) → Settles (L.Lines.x lines.now line) }
     ensures { Judged G.Grade.kind G.Grade.value rows.now (L.Lines.x lines.now) cells.old cells.new tick result }
 {
     let begins = write_rows(lines, rows, cells)?;
-    let (range, _) = look(list(cells, &begins, rows.len() - 1), tick as u64);
-    Ok(range)
+    let (verdict, _) = look(list(cells, &begins, rows.len() - 1), tick as u64);
+    Ok(Judgement { verdict, begins })
 }

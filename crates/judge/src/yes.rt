@@ -1,10 +1,8 @@
-// Yes and no as a kind of value, and small steps on what is known of a fact from a tick on.
-ghost use Rattle.std.specs.Prelude.{◌≡◌, ◌≤◌, true, ◌||◌};
-ghost use Rattle.pieces.specs.Ticks.{sooner};
-ghost use Rattle.judge.specs.Yes.{Known, First, clip, Within};
+// Walks over a signal of yes and no.
+ghost use Rattle.std.specs.Prelude.{◌≡◌, ◌≤◌};
+ghost use Rattle.judge.specs.Yes.{First, Clear, clip};
 
 use crate::yesno::YesNo;
-use pieces::ticks::first_of;
 
 // The tick, or `end` where there is none before it.
 pub(crate) fn clipped(next: Option<u32>, end: u32) -> u32
@@ -14,30 +12,6 @@ pub(crate) fn clipped(next: Option<u32>, end: u32) -> u32
         None => end,
         Some(n) => n.min(end),
     }
-}
-
-// Whether u is from lo on and before hi, and when that changes.
-pub(crate) fn span(lo: u32, hi: u32, u: u32) -> (bool, Option<u32>)
-    ensures { Known (Within lo hi) u result.0 result.1 }
-{
-    if u < lo {
-        (false, Some(lo))
-    } else if u < hi {
-        (true, Some(hi))
-    } else {
-        (false, None)
-    }
-}
-
-pub(crate) fn either(
-    found: bool,
-    next: Option<u32>,
-    also: bool,
-    after: Option<u32>,
-) -> (bool, Option<u32>)
-    ensures { (result.0 ≡ (found || also)) × (result.1 ≡ sooner next after) }
-{
-    (found || also, first_of(next, after))
 }
 
 // The first tick from `from` on at which the signal is `value`, or `end` where there is none before it.
@@ -56,8 +30,19 @@ pub(crate) fn first<S: YesNo>(source: &S, value: bool, from: u32, end: u32) -> u
     end
 }
 
-pub(crate) fn span_if(yes: bool, lo: u32, hi: u32, u: u32) -> (bool, Option<u32>)
-    ensures { Known (λ w. (yes ≡ true) × Within lo hi w) u result.0 result.1 }
+// The first tick from `from` on from which the signal is no up to u, which is not counted.
+pub(crate) fn clear_from<S: YesNo>(source: &S, from: u32, u: u32) -> u32
+    requires { from ≤ u }
+    ensures { Clear (S.YesNo.f source.now) from u result }
 {
-    if yes { span(lo, hi, u) } else { (false, None) }
+    let mut s = from;
+    let mut t = from;
+    while t < u {
+        let (here, next) = source.step(t);
+        t = clipped(next, u);
+        if here {
+            s = t;
+        }
+    }
+    s
 }

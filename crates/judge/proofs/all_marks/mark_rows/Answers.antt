@@ -1,56 +1,44 @@
-use Rattle.std.proofs.Common.{◌≡◌, ℕ, ◌+◌, true, List, ◌++◌, length, sym, refl, ◌∙◌, subst, arith, length-append}
-use Rattle.meaning.specs.declared.mark.Mark.{Mark}
-use borrow.Author.Tests.{both_ways}
-use Rattle.pieces.specs.Cells.{Put}
-use Rattle.judge.proofs.RowMarks.{put_append, rows_more, rows_skip}
+use Rattle.std.proofs.Common.{ℕ, ◌-◌, Bool, [], length, get_or, pos, sym, refl, ap, subst, arith}
+use Rattle.std.proofs.lemmas.List.{get_or_default}
+use Rattle.std.proofs.lemmas.Result.{err_from_is_err_and}
+use Rattle.rules.specs.declared.row.Side.TheVariants.{AtLeast}
+use Rattle.rules.specs.declared.row.Row.TheVariants.{Test, Not}
+use Rattle.rules.specs.Rows.{row_at}
+use Rattle.pieces.specs.declared.sweep.Full.{Full}
+use Rattle.judge.specs.Children.{is_test, asks_at}
+use Rattle.judge.specs.Marks.{MarkedRows, OfRows}
+use Rattle.judge.proofs.RowMarks.{next_row, short_row}
 use Rattle.judge.proofs.all_marks.mark_rows.Goals as goal
-use Rattle.judge.proofs.all_marks.mark_rows.Goals.{then-is_test+in-Ok, else-is_test}
 
--- where the marks so far end
-placed : (before mid after : List Mark) (used : ℕ) (ms ns : List Mark) → used ≡ length ms → Put before 0 ms mid → Put mid used ns after → Put before 0 (ms ++ ns) after
-placed before mid after used ms ns e p q =
-    let z : used ≡ 0 + length ms = omega arith in
-    put_append before mid after 0 ms ns p (subst (λ n. Put mid n ns after) z q)
+pub loop-k-init : goal.loop-k-init
+loop-k-init g c = ([], (refl, (refl, refl), refl))
 
-pub returns-in-Err : goal.returns-in-Err
-returns-in-Err g c =
-    let h = c.in-Err.ensures in
-    let i = c.loop-row.invariant in
-    let kept : length c.loop-row.marks ≡ length c.args.marks.now = c.loop-row.auto.marks in (
-      i.0 ++ h.0,
-      (
-        omega (arith, length-append i.0 h.0, h.1.0, i.1.0, kept),
-        placed c.args.marks.now c.loop-row.marks c.mark_into.new.marks c.loop-row.used i.0 h.0 i.1.0 i.1.1 h.1.1,
-        (c.loop-row.row, (i.0, (h.0, (omega (arith, c.loop-row-test.true, c.count-count.ensures), refl, i.1.2, sym c.if-is_test.ensures, h.1.2)))),
-      ),
-    )
+pub returns-in_err-used : goal.returns-in_err-used
+returns-in_err-used g c =
+    let rows = c.args.rows.now in
+    let n = length rows in
+    let asks : ℕ → ℕ → Bool = λ k. asks_at g.G.Grade.kind g.G.Grade.value c.args.begins.now c.args.ranges.now c.args.starts.now c.args.wants.now k (n - 1 - k) in
+    let k = c.loop-k.k in
+    let none = Test 0 AtLeast (pos 0) in
+    let p = err_from_is_err_and c.from_residual.result c.from_residual.ensures.1 in
+    subst (λ r. MarkedRows (λ j. is_test (row_at rows j)) asks (λ j. c.args.limit) n c.args.marks.now c.mark_test.new.marks r) (sym p.1)
+    (short_row (λ j. is_test (row_at rows j)) asks (λ j. c.args.limit) c.args.marks.now k c.loop-k.used c.loop-k.marks c.mark_test.new.marks c.loop-k.invariant p.0
+    (is_test (get_or rows k none)) (ap is_test (sym (get_or_default rows k none (Not 0) c.loop-k-test.true))) n c.loop-k-test.true c.loop-k.auto.marks c.in_err-used.ensures)
 
-pub loop-row-preserved : goal.loop-row-preserved
-loop-row-preserved g c =
-    let me = c.args.table.now in
-    let tests = g.T.Tests.tests me in
-    let asks = g.T.Tests.asks me in
-    let limit = g.T.Tests.limit me in
-    let row = c.loop-row.row in
-    let i = c.loop-row.invariant in
-    let first = c.args.marks.now in
-    elim c.if-is_test.branch [
-      | then-is_test+in-Ok w ↦
-          let h = w.in-Ok.ensures in
-          let yes : tests row ≡ true = sym w.if-is_test.ensures in (
-            i.0 ++ h.0,
-            (
-              omega (arith, length-append i.0 h.0, w.used-is, h.1.0, i.1.0),
-              subst (λ ms. Put first 0 (i.0 ++ h.0) ms) (sym w.marks-is) (placed first c.loop-row.marks w.mark_into.new.marks c.loop-row.used i.0 h.0 i.1.0 i.1.1 h.1.1),
-              rows_more tests asks limit row i.0 h.0 i.1.2 (λ _. h.1.2, λ n. absurd (both_ways (tests row) n yes)),
-            ),
-          )
-      | else-is_test w ↦ (
-        i.0,
-        (
-          w.used-is ∙ i.1.0,
-          subst (λ ms. Put first 0 i.0 ms) (sym w.marks-is) i.1.1,
-          rows_skip tests asks limit row i.0 i.1.2 (sym w.if-is_test.ensures),
-        ),
-      )
-    ]
+pub loop-k-preserved : goal.loop-k-preserved
+loop-k-preserved g c =
+    let rows = c.args.rows.now in
+    let n = length rows in
+    let asks : ℕ → ℕ → Bool = λ k. asks_at g.G.Grade.kind g.G.Grade.value c.args.begins.now c.args.ranges.now c.args.starts.now c.args.wants.now k (n - 1 - k) in
+    let k = c.loop-k.k in
+    let none = Test 0 AtLeast (pos 0) in
+    next_row (λ j. is_test (row_at rows j)) asks (λ j. c.args.limit) c.args.marks.now k c.loop-k.used c.loop-k.marks c.mark_test.new.marks c.loop-k.invariant Full
+    (is_test (get_or rows k none)) (ap is_test (sym (get_or_default rows k none (Not 0) c.loop-k-test.true))) c.in_ok-used.used c.in_ok-used.ensures
+
+pub returns : goal.returns
+returns g c =
+    let rows = c.args.rows.now in
+    let n = length rows in
+    let asks : ℕ → ℕ → Bool = λ k. asks_at g.G.Grade.kind g.G.Grade.value c.args.begins.now c.args.ranges.now c.args.starts.now c.args.wants.now k (n - 1 - k) in
+    let i = c.loop-k.invariant in
+    (i.0, (i.1.0, i.1.1, subst (λ m. OfRows (λ j. is_test (row_at rows j)) asks (λ j. c.args.limit) m i.0) (omega arith) i.1.2))

@@ -1,10 +1,8 @@
-use Rattle.std.proofs.Common.{◌≡◌, List, length}
-use Rattle.pieces.specs.Cells.{Put}
-use Rattle.judge.specs.Marks.{OfRows}
-use Rattle.meaning.specs.declared.mark.Mark.{Mark}
+use Rattle.std.proofs.Common.{◌-◌, length}
+use Rattle.rules.specs.Rows.{row_at}
+use Rattle.judge.specs.Children.{is_test, asks_at}
+use Rattle.judge.proofs.RowMarks.{SoFar}
 use Rattle.judge.proofs.all_marks.mark_rows.Given as goal
 
-abbrev pub invariant-loop-row : goal.invariant-loop-row
-invariant-loop-row g l =
-    (ms : List Mark) × ((l.used ≡ length ms) × Put l.initial.marks 0 ms l.marks ×
-    OfRows (g.T.Tests.tests l.table) (g.T.Tests.asks l.table) (g.T.Tests.limit l.table) l.row ms)
+abbrev pub invariant-loop-k : goal.invariant-loop-k
+invariant-loop-k g l = SoFar (λ k. is_test (row_at l.rows k)) (λ k. asks_at g.G.Grade.kind g.G.Grade.value l.begins l.ranges l.starts l.wants k (length l.rows - 1 - k)) (λ k. l.limit) l.initial.marks l.k l.used l.marks

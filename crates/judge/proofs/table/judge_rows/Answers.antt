@@ -16,7 +16,8 @@ returns g c =
       w.0,
       (
         w.1.0,
+        w.1.1,
         complete_verdict K g.G.Grade.value c.args.rows.now (g.L.Lines.x c.args.lines.now) c.args.cells.now c.write_rows.new.cells w.0 c.in_ok-begins.begins c.write_rows.auto.cells w.1.0 w.1.1
-            c.requires.sound.some_row c.list.result.now c.list.ensures.is c.args.tick (worth K g.G.Grade.value c.look-range.result.0) c.look-range.result.1 c.look-range.ensures,
+            c.requires.sound.some_row c.list.result.now c.list.ensures.is c.args.tick (worth K g.G.Grade.value c.look-verdict.result.0) c.look-verdict.result.1 c.look-verdict.ensures,
       ),
     )

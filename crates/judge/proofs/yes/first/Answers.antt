@@ -1,7 +1,7 @@
 use Rattle.std.proofs.Common.{◌<◌, ◌≤◌, sym, ◌∙◌, ⊎_elim, arith}
 use Rattle.std.proofs.lemmas.Bool.{cases_lt}
 use Rattle.judge.specs.Yes.{clip}
-use Rattle.judge.specs.Knowns.{clip_before, clip_later, clip_most, later_before, same_if, apart_if}
+use Rattle.judge.proofs.Knowns.{clip_before, clip_later, clip_most, later_before, same_if, apart_if}
 use Rattle.judge.proofs.yes.first.Goals as goal
 
 pub returns-then-here-value : goal.returns-then-here-value

@@ -1,0 +1,13 @@
+use Rattle.std.proofs.Common.{false}
+use Rattle.judge.proofs.Walks.{held_steady, held_dead}
+use Rattle.judge.proofs.child.left_at.Goals as goal
+
+pub returns-then-gone : goal.returns-then-gone
+returns-then-gone g c =
+    let asks = g.A.YesNo.f c.args.asks.now in
+    let dead = g.B.YesNo.f c.args.dead.now in
+    let goal = g.C.YesNo.f c.args.need.now in
+    let w = c.args.window in
+    let u = c.args.t in
+    let o = c.step-gone.result.1 in
+    held_steady asks dead goal w.from w.to w.limit u false o (held_dead asks dead goal w.from w.to w.limit u c.step-gone.result.0 o c.step-gone.ensures c.if-gone.true)

@@ -1,0 +1,68 @@
+-- What stands in the cells before and after the want lists and the marks are written.
+use Rattle.std.specs.Prelude.{◌≡◌, ℕ, ◌-◌, ◌<◌, ◌≤◌, Bool, List, length, take, drop, Ok, Err, Result, ◌==◌}
+use Rattle.grades.specs.Kinds.{Kind}
+use Rattle.grades.specs.Ranges.{Span}
+use Rattle.grades.specs.Worth.{worth}
+use Rattle.grades.specs.declared.range.Range.{Range}
+use Rattle.pieces.specs.declared.piece.Piece.{Piece}
+use Rattle.pieces.specs.Cells.{shown, Written}
+use Rattle.rules.specs.declared.row.Row.{Row}
+use Rattle.rules.specs.Rows.{root}
+use Rattle.meaning.specs.declared.mark.Mark.{Mark}
+use Rattle.meaning.specs.Readings.{Readings}
+use Rattle.meaning.specs.Marks.{Marks}
+use Rattle.runs.specs.Calls.{all, RowLists, TellsWanted, WantLists}
+use Rattle.judge.specs.Places.{list_at, Stands}
+use Rattle.judge.specs.Children.{said}
+use Rattle.judge.specs.Judges.{BeginAt}
+
+-- the cells begin with xs, and behind them are as they were
+pub record BeginsWith {X : Type 0} (xs before after : List X) : Type 0 where
+  pub fits : length xs ≤ length before
+  pub written : take (length xs) after ≡ xs
+  pub behind : drop (length xs) after ≡ drop (length xs) before
+
+-- xs needs more cells than there are: all are full of its beginning
+pub record RunsOut {X : Type 0} (xs before after : List X) : Type 0 where
+  pub longer : length before < length xs
+  pub beginning : after ≡ take (length before) xs
+
+-- yes at the tick alone
+abbrev pub only_at : ℕ → ℕ → Bool
+only_at tick u = u == tick
+
+module _ (K : Kind) (rows : List Row) (x : Readings) where
+  -- the lists of all rows stand in the cells, in row order
+  pub record RangesStand {G : Type 0} (value : G → K.Value) (begins : List ℕ) (ranges : List (Piece (Range G))) : Type 0 where
+    pub lists : List (List (Piece (Span K.Value)))
+    pub listed : RowLists K rows x lists
+    pub written : shown (worth K value) (take (length (all lists)) ranges) ≡ all lists
+    pub fits : length (all lists) ≤ length ranges
+    pub begin : BeginAt begins lists
+
+  module _ (tick : ℕ) where
+    -- the want lists of all rows stand in the cells, from the last row to row 0
+    pub record WantsStand (starts : List ℕ) (wants : List (Piece Bool)) : Type 0 where
+      pub lists : List (List (Piece Bool))
+      pub listed : WantLists K rows x tick lists
+      pub written : take (length (all lists)) wants ≡ all lists
+      pub begin : BeginAt starts lists
+
+    -- the want lists of the last n rows are there, each as it should be
+    pub record WantsKnown (n : ℕ) (starts : List ℕ) (wants : List (Piece Bool)) : Type 0 where
+      pub stands : (i : ℕ) → i < n → Stands starts wants i
+      pub right : (i : ℕ) → i < n → TellsWanted K rows x tick (root rows - i) (said (list_at starts wants i))
+
+    -- a writing of the want list of the row that has i rows behind it
+    abbrev pub WantWritten : {E : Type 0} → ℕ → List (Piece Bool) → ℕ → List (Piece Bool) → Result ℕ E → Type 0
+    WantWritten i before used after r = (w : ℕ → Bool) × (TellsWanted K rows x tick (root rows - i) w × Written (λ b. b) w before used after r)
+
+    -- a writing of all want lists: done, it tells where each begins
+    abbrev pub WantsWritten : {E : Type 0} → List (Piece Bool) → List (Piece Bool) → Result (List ℕ) E → Type 0
+    WantsWritten before after (Ok starts) = (wss : List (List (Piece Bool))) × (WantLists K rows x tick wss × BeginsWith (all wss) before after × BeginAt starts wss)
+    WantsWritten before after (Err e) = (wss : List (List (Piece Bool))) × (WantLists K rows x tick wss × RunsOut (all wss) before after)
+
+    -- a writing of all marks: done, it tells how many there are
+    abbrev pub MarksWritten : {E : Type 0} → List Mark → List Mark → Result ℕ E → Type 0
+    MarksWritten before after (Ok n) = (ms : List Mark) × (Marks K rows x tick ms × (n ≡ length ms) × BeginsWith ms before after)
+    MarksWritten before after (Err e) = (ms : List Mark) × (Marks K rows x tick ms × RunsOut ms before after)

@@ -1,0 +1,79 @@
+// Judging a rule on a job.
+ghost use Rattle.std.specs.Prelude.{◌≡◌, ℕ, ◌<◌, ◌≤◌, length};
+ghost use Rattle.grades.specs.Kinds.{Tells};
+ghost use Rattle.rules.specs.Rows.{row_at, Sound};
+ghost use Rattle.rules.specs.Texts.{table_of};
+ghost use Rattle.meaning.specs.Marks.{Tests};
+ghost use Rattle.runs.specs.States.{readings_of};
+ghost use Rattle.runs.specs.Calls.{JudgeTurn};
+ghost use Rattle.jobs.specs.Jobs.{state_of};
+ghost use Rattle.judge.specs.Answers.{JudgedTable, judge_reply, JudgeCells};
+
+use crate::fault::JudgeFault;
+use crate::judgement::Judgement;
+use crate::table::judge_rows;
+use grades::grade::Grade;
+use grades::range::Range;
+use jobs::job::Job;
+use pieces::piece::Piece;
+use rules::row::Row;
+use rules::rule::Rule;
+
+// The last tick at which a rule may be judged.
+const LAST_TICK: u32 = 500_000_000;
+
+// Whether the row tests a line that is not among the first `lines`.
+fn lacks(row: Row, lines: usize) -> bool
+    ensures { Tells result ((line : ℕ) × (Tests row line × (lines ≤ line))) }
+{
+    match row {
+        Row::Test { line, .. } => line as usize >= lines,
+        _ => false,
+    }
+}
+
+// Whether each line that the rows test is among the first `lines`.
+fn has_lines(rows: &[Row], lines: usize) -> bool
+    ensures { Tells result ((k line : ℕ) → k < length rows.now → Tests (row_at rows.now k) line → line < lines) }
+{
+    for k in 0..rows.len() {
+        if lacks(rows[k], lines) {
+            return false;
+        }
+    }
+    true
+}
+
+// Judges a table of rows on the job, or says why not.
+pub(crate) fn judge_table<'a, G: Grade>(
+    job: &Job<'a>,
+    rows: &[Row],
+    tick: u32,
+    cells: &mut [Piece<Range<G>>],
+) -> Result<Judgement<G>, JudgeFault>
+    requires { Sound rows.now }
+    ensures { JudgedTable G.Grade.kind G.Grade.value (state_of job.now) rows.now tick cells.old cells.new result }
+{
+    if !has_lines(rows, job.lines()) {
+        return Err(JudgeFault::NoSuchLine);
+    }
+    if tick > LAST_TICK {
+        return Err(JudgeFault::LateTick);
+    }
+    let judgement = judge_rows(job, rows, tick, cells)?;
+    Ok(judgement)
+}
+
+// The range of the rule's grade at the tick, by what the job reads. The cells then begin with the piece lists of all rows, in row order.
+pub fn judge<'a, G: Grade>(
+    job: &Job<'a>,
+    rule: &Rule,
+    tick: u32,
+    cells: &mut [Piece<Range<G>>],
+) -> Result<Range<G>, JudgeFault>
+    ensures turn { JudgeTurn G.Grade.kind (state_of job.now) (table_of rule.now) tick (length cells.old) (judge_reply G.Grade.kind G.Grade.value result) × (state_of job.now ≡ state_of job.now) }
+    ensures cells { JudgeCells G.Grade.kind G.Grade.value (table_of rule.now) (readings_of (state_of job.now)) cells.old cells.new result }
+{
+    let judgement = judge_table(job, rule.rows(), tick, cells)?;
+    Ok(judgement.verdict)
+}

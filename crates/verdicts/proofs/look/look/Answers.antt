@@ -1,8 +1,0 @@
-use Rattle.grades.specs.Ranges.{spans}
-use Rattle.grades.specs.Worth.{worth}
-use Rattle.pieces.proofs.Shows.{found_shown}
-use Rattle.verdicts.proofs.look.look.Goals as goal
-
-pub returns : goal.returns
-returns g c =
-    found_shown (worth g.G.Grade.kind g.G.Grade.value) (spans g.G.Grade.kind).lowest c.args.pieces.now c.args.t c.lookup.result.0 c.lookup.result.1 c.requires c.lookup.ensures

@@ -1,8 +1,0 @@
-use Rattle.std.proofs.Common.{ap, ◌∙◌}
-use Rattle.grades.specs.Ranges.{spans}
-use Rattle.verdicts.proofs.steps.not_step.Goals as goal
-
-pub returns : goal.returns
-returns g c =
-    let s = c.look-range.ensures in
-    (s.0, λ u a b. c.opposite.ensures ∙ ap (spans g.G.Grade.kind).opposite (s.1 u a b))

@@ -1,8 +1,0 @@
-use Rattle.std.proofs.Common.{◌≡◌, ℕ, ◌-◌, ◌<◌, ◌≤◌}
-use Rattle.verdicts.proofs.yes.first.Given as goal
-
-abbrev pub invariant-loop-t : goal.invariant-loop-t
-invariant-loop-t g l = (l.from ≤ l.t) × (l.t ≤ l.end) × ((k : ℕ) → l.from ≤ k → k < l.t → g.S.YesNo.f l.source k ≡ l.value → ⊥)
-
-abbrev pub decreases-loop-t : goal.decreases-loop-t
-decreases-loop-t g l = l.end - l.t
