@@ -17,7 +17,6 @@ use Rattle.runs.specs.Calls.{TellsWanted}
 use Rattle.judge.specs.declared.trial.Trial.{Trial}
 use Rattle.judge.specs.declared.trial.Trial.TheVariants.{Loose, Lowest as OnlyLowest, Higher}
 use Rattle.judge.specs.Trials.{told, tried, asked}
-use Rattle.judge.specs.Places.{list_at, Stands}
 use Rattle.judge.specs.Children.{row_says, passed_on, Askable}
 use Rattle.judge.specs.Markings.{only_at, RangesStand}
 use Rattle.judge.proofs.Anys.{tells_yes, tells_from}
@@ -67,12 +66,11 @@ module _ (K : Kind) {G : Type 0} (val : G → K.Value) (rows : List Row) (sound 
         omega (arith, wanted_near K v sound tick k t w.0)
 
     module _ (limit : ℕ) (is : limit ≡ tick + reach rows + 1) (k : ℕ) (lt : k < length rows) (row : Row) (at : row ≡ row_at rows k) where
-      pub askable : tick ≤ 500000000 → (starts : List ℕ) (wants : List (Piece Bool)) (own : ℕ) → Stands starts wants own → Askable row k limit begins cells (list_at starts wants own)
-      askable early starts wants own stands =
-          subst (λ r. Askable r k limit begins cells (list_at starts wants own)) (sym at) record {
+      pub askable : tick ≤ 500000000 → Askable row k limit begins cells
+      askable early =
+          subst (λ r. Askable r k limit begins cells) (sym at) record {
             ready = record { fits = sound.fits k lt; children = λ c child. let e = sound.earlier k c lt child in row_stands K val rows x begins cells R c (omega arith) };
             own = row_stands K val rows x begins cells R k lt;
-            in_order = stands.lies.in_order;
             near = omega (arith, far_near rows sound k lt, sound.near);
           }
 

@@ -1,17 +1,18 @@
 -- Where a row's child is wanted, as yes or no, from where the row is wanted and not settled.
-use Rattle.std.specs.Prelude.{◌≡◌, ℕ, ◌+◌, ◌<◌, Bool, true, false, cond, ◌||◌, List, ◌==◌}
+use Rattle.std.specs.Prelude.{ℕ, ◌+◌, ◌<◌, Bool, true, false, cond, ◌||◌, List, ◌==◌}
+use Rattle.std.specs.Coded.{le_prop}
 use Rattle.grades.specs.Kinds.{Kind}
 use Rattle.grades.specs.declared.range.Range.{Range}
 use Rattle.rules.specs.declared.row.Row.{Row}
 use Rattle.rules.specs.declared.row.Row.TheVariants.{Test, Not, And, Or, Eventually, Always, Until}
 use Rattle.pieces.specs.declared.piece.Piece.{Piece}
-use Rattle.pieces.specs.Pieces.{ordered, at_from}
+use Rattle.pieces.specs.Pieces.{at_from}
 use Rattle.judge.specs.declared.trial.Trial.{Trial}
 use Rattle.judge.specs.declared.trial.Trial.TheVariants.{Loose, Lowest, Higher}
 use Rattle.judge.specs.Yes.{any}
 use Rattle.judge.specs.Reaches.{sees, holds}
 use Rattle.judge.specs.Trials.{tried, asked}
-use Rattle.judge.specs.Places.{list_at, told, Stands, Ready}
+use Rattle.judge.specs.Places.{list_at, told, Stands, Stands_prop, Ready, Ready_prop}
 
 abbrev pub never : ℕ → Bool
 never t = false
@@ -73,9 +74,12 @@ module _ (K : Kind) {G : Type 0} (value : G → K.Value) (begins : List ℕ) (ra
   abbrev pub asks_at : List ℕ → List (Piece Bool) → ℕ → ℕ → ℕ → Bool
   asks_at starts wants k i = asked (said (list_at starts wants i)) (row_says Loose k)
 
--- the lists of the row and of its children are there, its wants are in order, and no window goes past the last u32
-pub record Askable {V : Type 0} (row : Row) (k limit : ℕ) (begins : List ℕ) (ranges : List (Piece V)) (want : List (Piece Bool)) : Type 0 where
+-- the lists of the row and of its children are there, and no window goes past the last u32
+pub record Askable {V : Type 0} (row : Row) (k limit : ℕ) (begins : List ℕ) (ranges : List (Piece V)) : Type 0 where
   pub ready : Ready row begins ranges
   pub own : Stands begins ranges k
-  pub in_order : ordered want ≡ true
   pub near : limit + far row < 4294967296
+
+-- it has one proof at most, so a struct may keep it
+pub Askable_prop : {V : Type 0} (row : Row) (k limit : ℕ) (begins : List ℕ) (ranges : List (Piece V)) → IsProp (Askable row k limit begins ranges)
+Askable_prop row k limit begins ranges p q = λ i. record { ready = Ready_prop row begins ranges p.ready q.ready i; own = Stands_prop begins ranges k p.own q.own i; near = le_prop p.near q.near i }

@@ -7,5 +7,6 @@ pub mod Signals
 pub mod Places
 pub mod Judges
 pub mod Markings
+pub mod Judged
 pub mod Faults
 pub mod Answers

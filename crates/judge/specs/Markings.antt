@@ -1,5 +1,5 @@
 -- What stands in the cells before and after the want lists and the marks are written.
-use Rattle.std.specs.Prelude.{◌≡◌, ℕ, ◌-◌, ◌<◌, ◌≤◌, Bool, List, length, take, drop, Ok, Err, Result, ◌==◌}
+use Rattle.std.specs.Prelude.{◌≡◌, ℕ, ◌+◌, ◌-◌, ◌<◌, ◌≤◌, Bool, List, length, take, drop, Ok, Err, Result, ◌==◌}
 use Rattle.grades.specs.Kinds.{Kind}
 use Rattle.grades.specs.Ranges.{Span}
 use Rattle.grades.specs.Worth.{worth}
@@ -7,7 +7,7 @@ use Rattle.grades.specs.declared.range.Range.{Range}
 use Rattle.pieces.specs.declared.piece.Piece.{Piece}
 use Rattle.pieces.specs.Cells.{shown, Written}
 use Rattle.rules.specs.declared.row.Row.{Row}
-use Rattle.rules.specs.Rows.{root}
+use Rattle.rules.specs.Rows.{root, reach, Sound}
 use Rattle.meaning.specs.declared.mark.Mark.{Mark}
 use Rattle.meaning.specs.Readings.{Readings}
 use Rattle.meaning.specs.Marks.{Marks}
@@ -39,6 +39,13 @@ module _ (K : Kind) (rows : List Row) (x : Readings) where
     pub written : shown (worth K value) (take (length (all lists)) ranges) ≡ all lists
     pub fits : length (all lists) ≤ length ranges
     pub begin : BeginAt begins lists
+
+  -- a sound table was judged at a tick, and no row is wanted from the limit on
+  pub record Standing {G : Type 0} (value : G → K.Value) (tick limit : ℕ) (begins : List ℕ) (ranges : List (Piece (Range G))) : Type 0 where
+    pub sound : Sound rows
+    pub near : tick ≤ 500000000
+    pub end : limit ≡ tick + reach rows + 1
+    pub stand : RangesStand value begins ranges
 
   module _ (tick : ℕ) where
     -- the want lists of all rows stand in the cells, from the last row to row 0

@@ -36,8 +36,8 @@ fn lacks(row: Row, lines: usize) -> bool
 fn has_lines(rows: &[Row], lines: usize) -> bool
     ensures { Tells result ((k line : ℕ) → k < length rows.now → Tests (row_at rows.now k) line → line < lines) }
 {
-    for k in 0..rows.len() {
-        if lacks(rows[k], lines) {
+    for row in rows {
+        if lacks(*row, lines) {
             return false;
         }
     }
@@ -71,7 +71,7 @@ pub fn judge<'a, G: Grade>(
     tick: u32,
     cells: &mut [Piece<Range<G>>],
 ) -> Result<Range<G>, JudgeFault>
-    ensures turn { JudgeTurn G.Grade.kind (state_of job.now) (table_of rule.now) tick (length cells.old) (judge_reply G.Grade.kind G.Grade.value result) × (state_of job.now ≡ state_of job.now) }
+    ensures turn { JudgeTurn G.Grade.kind (state_of job.now) (table_of rule.now) tick (length cells.old) (judge_reply G.Grade.kind G.Grade.value result) }
     ensures cells { JudgeCells G.Grade.kind G.Grade.value (table_of rule.now) (readings_of (state_of job.now)) cells.old cells.new result }
 {
     let judgement = judge_table(job, rule.rows(), tick, cells)?;

@@ -2,32 +2,29 @@
 #![tactic(auto)]
 
 mod all_marks;
-mod all_wants;
 mod child;
 pub mod fault;
 mod job_lines;
+mod judged;
 mod judgement;
 pub mod judging;
 mod limits;
 mod lines;
-mod listed;
+mod lists;
 mod look;
-mod look_up;
 pub mod marking;
 pub mod number;
 mod ors;
 mod parents;
-mod place;
 mod rows;
-mod source;
 mod steps;
 mod stretches;
 mod table;
 mod trial;
 mod tried;
 mod until;
-mod want;
-mod want_sources;
+mod want_lists;
+mod want_signals;
 mod window;
 mod yes;
 mod yesno;

@@ -26,10 +26,10 @@ pub(crate) fn parent_of(rows: &[Row], c: usize) -> usize
     ensures is_row { result < length rows.now }
     ensures child { Child (row_at rows.now result) c }
 {
-    for k in 0..rows.len() {
-        if has_child(rows[k], c) {
+    for (k, row) in rows.iter().enumerate() {
+        if has_child(*row, c) {
             return k;
         }
     }
-    c
+    unreachable()
 }

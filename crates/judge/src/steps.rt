@@ -1,8 +1,7 @@
 // One step of each kind of row but until, over the lists of its children.
-ghost use Rattle.std.specs.Prelude.{◌≡◌, ◌+◌, ◌-◌, ◌≤◌, true};
+ghost use Rattle.std.specs.Prelude.{◌≡◌, ◌+◌, ◌-◌, ◌≤◌};
 ghost use Rattle.grades.specs.Ranges.{spans};
 ghost use Rattle.grades.specs.Worth.{worth};
-ghost use Rattle.pieces.specs.Pieces.{ordered};
 ghost use Rattle.pieces.specs.Ticks.{Steady};
 ghost use Rattle.meaning.specs.Values.{over};
 ghost use Rattle.judge.specs.Signals.{heard, op, Stays};
@@ -10,10 +9,10 @@ ghost use Rattle.judge.specs.Signals.{heard, op, Stays};
 use crate::look::look;
 use grades::grade::Grade;
 use grades::range::Range;
-use pieces::piece::Piece;
+use pieces::list::PieceList;
 use pieces::ticks::{first_of, moved_back};
 
-// Which of two ranges is kept.
+// Which of two ranges is kept. It has a name of its own, since the clauses of a window say which of the two is meant.
 #[derive(Clone, Copy)]
 pub(crate) enum Way {
     Upper,
@@ -31,9 +30,8 @@ fn combine<G: Grade>(way: Way, one: Range<G>, other: Range<G>) -> Range<G>
 }
 
 // The child's opposite, as long as the child stays.
-pub(crate) fn not_step<G: Grade>(child: &[Piece<Range<G>>], t: u32) -> (Range<G>, Option<u32>)
-    requires { ordered child.now ≡ true }
-    ensures { Steady (λ u. (spans G.kind).opposite (heard G.kind G.value child.now u)) t (worth G.kind G.value result.0) result.1 }
+pub(crate) fn not_step<G: Grade>(child: &PieceList<'_, Range<G>>, t: u32) -> (Range<G>, Option<u32>)
+    ensures { Steady (λ u. (spans G.kind).opposite (heard G.kind G.value child.now.pieces.now u)) t (worth G.kind G.value result.0) result.1 }
 {
     let (range, next) = look(child, t as u64);
     (range.opposite(), next)
@@ -42,13 +40,11 @@ pub(crate) fn not_step<G: Grade>(child: &[Piece<Range<G>>], t: u32) -> (Range<G>
 // The two children made one, as long as both stay.
 pub(crate) fn pair_step<G: Grade>(
     way: Way,
-    left: &[Piece<Range<G>>],
-    right: &[Piece<Range<G>>],
+    left: &PieceList<'_, Range<G>>,
+    right: &PieceList<'_, Range<G>>,
     t: u32,
 ) -> (Range<G>, Option<u32>)
-    requires left { ordered left.now ≡ true }
-    requires right { ordered right.now ≡ true }
-    ensures { Steady (λ u. op G.kind way (heard G.kind G.value left.now u) (heard G.kind G.value right.now u)) t (worth G.kind G.value result.0) result.1 }
+    ensures { Steady (λ u. op G.kind way (heard G.kind G.value left.now.pieces.now u) (heard G.kind G.value right.now.pieces.now u)) t (worth G.kind G.value result.0) result.1 }
 {
     let (one, m) = look(left, t as u64);
     let (other, n) = look(right, t as u64);
@@ -58,14 +54,13 @@ pub(crate) fn pair_step<G: Grade>(
 // All ranges from the tick first to the tick end made one, piece by piece, and the next change after end.
 pub(crate) fn gather<G: Grade>(
     way: Way,
-    child: &[Piece<Range<G>>],
+    child: &PieceList<'_, Range<G>>,
     first: u64,
     end: u64,
 ) -> (Range<G>, Option<u32>)
-    requires list { ordered child.now ≡ true }
-    requires window { first ≤ end }
-    ensures all { worth G.kind G.value result.0 ≡ over (op G.kind way) (heard G.kind G.value child.now) first (end - first) }
-    ensures next { Stays (heard G.kind G.value child.now) end result.1 }
+    requires { first ≤ end }
+    ensures all { worth G.kind G.value result.0 ≡ over (op G.kind way) (heard G.kind G.value child.now.pieces.now) first (end - first) }
+    ensures next { Stays (heard G.kind G.value child.now.pieces.now) end result.1 }
 {
     let (range, after) = look(child, first);
     let mut all = range;
@@ -84,14 +79,13 @@ pub(crate) fn gather<G: Grade>(
 // A window changes no sooner than a piece leaves it at its start or another comes in at its end.
 pub(crate) fn window_step<G: Grade>(
     way: Way,
-    child: &[Piece<Range<G>>],
+    child: &PieceList<'_, Range<G>>,
     from: u32,
     to: u32,
     t: u32,
 ) -> (Range<G>, Option<u32>)
-    requires list { ordered child.now ≡ true }
-    requires window { from ≤ to }
-    ensures { Steady (λ u. over (op G.kind way) (heard G.kind G.value child.now) (u + from) (to - from)) t (worth G.kind G.value result.0) result.1 }
+    requires { from ≤ to }
+    ensures { Steady (λ u. over (op G.kind way) (heard G.kind G.value child.now.pieces.now) (u + from) (to - from)) t (worth G.kind G.value result.0) result.1 }
 {
     let first = t as u64 + from as u64;
     let end = t as u64 + to as u64;

@@ -6,8 +6,9 @@ ghost use Rattle.judge.specs.Judges.{RowsWritten, Judged};
 
 use crate::judgement::Judgement;
 use crate::lines::Lines;
+use crate::lists::Lists;
 use crate::look::look;
-use crate::rows::{list, write_row};
+use crate::rows::write_row;
 use grades::grade::Grade;
 use grades::range::Range;
 use pieces::piece::Piece;
@@ -15,7 +16,7 @@ use pieces::sweep::Full;
 use rules::row::Row;
 
 // Writes the lists of all rows, in row order, and gives where each begins and the last ends.
-pub(crate) fn write_rows<G: Grade, L: Lines>(
+fn write_rows<G: Grade, L: Lines>(
     lines: &L,
     rows: &[Row],
     cells: &mut [Piece<Range<G>>],
@@ -24,10 +25,11 @@ pub(crate) fn write_rows<G: Grade, L: Lines>(
     requires settles { (line : ℕ) → Settles (L.Lines.x lines.now line) }
     ensures { RowsWritten G.Grade.kind G.Grade.value rows.now (L.Lines.x lines.now) cells.old cells.new result }
 {
+    // Where lists begin is kept in an array, since judging allocates nothing; a rule has 64 rows at most.
     let mut begins = [0usize; 65];
     let mut used = 0;
-    for k in 0..rows.len() {
-        used = write_row(rows[k], &begins, lines, cells, used)?;
+    for (k, row) in rows.iter().enumerate() {
+        used = write_row(*row, &begins, lines, cells, used)?;
         begins[k + 1] = used;
     }
     Ok(begins)
@@ -45,6 +47,10 @@ pub(crate) fn judge_rows<G: Grade, L: Lines>(
     ensures { Judged G.Grade.kind G.Grade.value rows.now (L.Lines.x lines.now) cells.old cells.new tick result }
 {
     let begins = write_rows(lines, rows, cells)?;
-    let (verdict, _) = look(list(cells, &begins, rows.len() - 1), tick as u64);
+    let lists = Lists {
+        begins: &begins,
+        cells,
+    };
+    let (verdict, _) = look(&lists.list(rows.len() - 1), tick as u64);
     Ok(Judgement { verdict, begins })
 }

@@ -5,11 +5,11 @@ ghost use Rattle.pieces.specs.Pieces.{at_list};
 ghost use Rattle.judge.specs.Trials.{tried, range_says, asked};
 ghost use Rattle.judge.specs.declared.trial.Trial.TheVariants.{Loose};
 
-use crate::listed::Listed;
 use crate::trial::Trial;
 use crate::yesno::YesNo;
 use grades::grade::Grade;
 use grades::range::Range;
+use pieces::list::PieceList;
 use pieces::ticks::first_of;
 
 fn try_range<G: Grade>(trial: Trial, range: Range<G>) -> bool
@@ -25,7 +25,7 @@ fn try_range<G: Grade>(trial: Trial, range: Range<G>) -> bool
 // A list of ranges, tried at each tick.
 #[derive(Drop)]
 pub(crate) struct Tried<'a, G> {
-    pub(crate) of: Listed<'a, Range<G>>,
+    pub(crate) of: PieceList<'a, Range<G>>,
     pub(crate) by: Trial,
 }
 
@@ -33,7 +33,7 @@ impl<'a, G: Grade> YesNo for Tried<'a, G> {
     ghost f = { λ s. range_says G.Grade.kind G.Grade.value s.by s.of.pieces.now s.of.ok };
 
     fn step(&self, t: u32) -> (bool, Option<u32>) {
-        let (range, next) = self.of.at(t);
+        let (range, next) = self.of.lookup(t as u64);
         (try_range(self.by, range), next)
     }
 }
@@ -41,16 +41,16 @@ impl<'a, G: Grade> YesNo for Tried<'a, G> {
 // Where a row is wanted, by its want list, and not settled, by its ranges.
 #[derive(Drop)]
 pub(crate) struct Asking<'a, 'b, G> {
-    pub(crate) want: Listed<'a, bool>,
-    pub(crate) range: Listed<'b, Range<G>>,
+    pub(crate) want: PieceList<'a, bool>,
+    pub(crate) range: PieceList<'b, Range<G>>,
 }
 
 impl<'a, 'b, G: Grade> YesNo for Asking<'a, 'b, G> {
     ghost f = { λ s. asked (at_list s.want.pieces.now s.want.ok) (range_says G.Grade.kind G.Grade.value Loose s.range.pieces.now s.range.ok) };
 
     fn step(&self, t: u32) -> (bool, Option<u32>) {
-        let (wanted, until) = self.want.at(t);
-        let (range, next) = self.range.at(t);
+        let (wanted, until) = self.want.lookup(t as u64);
+        let (range, next) = self.range.lookup(t as u64);
         let loose = try_range(Trial::Loose, range);
         (wanted & loose, first_of(until, next))
     }

@@ -1,8 +1,7 @@
 // One step of an until row, over the lists of its children.
-ghost use Rattle.std.specs.Prelude.{◌≡◌, ◌+◌, ◌-◌, ◌≤◌, true};
+ghost use Rattle.std.specs.Prelude.{◌≡◌, ◌+◌, ◌-◌, ◌≤◌};
 ghost use Rattle.grades.specs.Ranges.{spans};
 ghost use Rattle.grades.specs.Worth.{worth};
-ghost use Rattle.pieces.specs.Pieces.{ordered};
 ghost use Rattle.pieces.specs.Ticks.{Steady};
 ghost use Rattle.meaning.specs.Values.{over};
 ghost use Rattle.judge.specs.Signals.{goal, Stays};
@@ -11,25 +10,23 @@ use crate::look::look;
 use crate::steps::{Way, gather};
 use grades::grade::Grade;
 use grades::range::Range;
-use pieces::piece::Piece;
+use pieces::list::PieceList;
 use pieces::ticks::{first_of, moved_back};
 
 // The upper, over the ticks u from first to end, of right at u with left at every tick from t to u; a tick up to which that stays at first, and one up to which it stays at end.
 // One walk over the pieces of both lists, with the lower of left so far.
 fn gather_until<G: Grade>(
-    left: &[Piece<Range<G>>],
-    right: &[Piece<Range<G>>],
+    left: &PieceList<'_, Range<G>>,
+    right: &PieceList<'_, Range<G>>,
     t: u64,
     first: u64,
     end: u64,
 ) -> (Range<G>, Option<u32>, Option<u32>)
-    requires left { ordered left.now ≡ true }
-    requires right { ordered right.now ≡ true }
     requires start { t ≤ first }
     requires window { first ≤ end }
-    ensures all { worth G.kind G.value result.0 ≡ over (spans G.kind).join (goal G.kind G.value left.now right.now t) first (end - first) }
-    ensures leaves { Stays (goal G.kind G.value left.now right.now t) first result.1 }
-    ensures next { Stays (goal G.kind G.value left.now right.now t) end result.2 }
+    ensures all { worth G.kind G.value result.0 ≡ over (spans G.kind).join (goal G.kind G.value left.now.pieces.now right.now.pieces.now t) first (end - first) }
+    ensures leaves { Stays (goal G.kind G.value left.now.pieces.now right.now.pieces.now t) first result.1 }
+    ensures next { Stays (goal G.kind G.value left.now.pieces.now right.now.pieces.now t) end result.2 }
 {
     let (run, more) = gather(Way::Lower, left, t, first);
     let (aim, after) = look(right, first);
@@ -53,16 +50,14 @@ fn gather_until<G: Grade>(
 
 // As long as left does not change, an until is a window over what its goal was at t.
 pub(crate) fn until_step<G: Grade>(
-    left: &[Piece<Range<G>>],
-    right: &[Piece<Range<G>>],
+    left: &PieceList<'_, Range<G>>,
+    right: &PieceList<'_, Range<G>>,
     from: u32,
     to: u32,
     t: u32,
 ) -> (Range<G>, Option<u32>)
-    requires left { ordered left.now ≡ true }
-    requires right { ordered right.now ≡ true }
-    requires window { from ≤ to }
-    ensures { Steady (λ u. over (spans G.kind).join (goal G.kind G.value left.now right.now u) (u + from) (to - from)) t (worth G.kind G.value result.0) result.1 }
+    requires { from ≤ to }
+    ensures { Steady (λ u. over (spans G.kind).join (goal G.kind G.value left.now.pieces.now right.now.pieces.now u) (u + from) (to - from)) t (worth G.kind G.value result.0) result.1 }
 {
     let start = t as u64;
     let (_, changes) = look(left, start);

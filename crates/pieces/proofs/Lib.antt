@@ -5,6 +5,6 @@ pub mod Shows
 pub mod Chains
 pub mod Puts
 pub mod Sweeps
-pub mod Done
+pub mod Behind
 pub mod Windows
 pub mod Exists

@@ -1,4 +1,4 @@
-use Rattle.std.proofs.Common.{[], length, Ok, Err, sym, refl, ap, ◌∙◌, subst}
+use Rattle.std.proofs.Common.{[], length, Ok, Err, sym, ap, ◌∙◌, subst}
 use Rattle.std.proofs.lemmas.Result.{err_from_is_err_and}
 use Rattle.rules.specs.Texts.{table_of}
 use Rattle.runs.specs.States.{readings_of}
@@ -21,7 +21,7 @@ returns-in_err-judgement g c =
     let p = err_from_is_err_and c.from_residual.result c.from_residual.ensures.1 in
     let e = p.1 ∙ ap Err p.2 in
     record {
-      turn = (subst (λ r. JudgeTurn K s rows c.args.tick (length before) (judge_reply K val r)) (sym e) (refused_first K val s rows c.args.tick before after [] f h), refl);
+      turn = subst (λ r. JudgeTurn K s rows c.args.tick (length before) (judge_reply K val r)) (sym e) (refused_first K val s rows c.args.tick before after [] f h);
       cells = subst (λ r. JudgeCells K val rows (readings_of s) before after r) (sym e) (refused_cells K val s rows c.args.tick before after f h);
     }
 
@@ -35,4 +35,4 @@ returns g c =
     let after = c.judge_table.new.cells in
     let j = c.in_ok-judgement.judgement in
     let h = subst (λ rs. JudgedTable K val s rs c.args.tick before after (Ok j)) c.rows.ensures.is c.in_ok-judgement.ensures in
-    record { turn = (judged_turn K val s rows c.args.tick before after j h, refl); cells = (h.2.0, h.2.1.0) }
+    record { turn = judged_turn K val s rows c.args.tick before after j h; cells = (h.2.0, h.2.1.0) }

@@ -5,4 +5,4 @@ use Rattle.judge.proofs.look.look.Goals as goal
 
 pub returns : goal.returns
 returns g c =
-    found_shown (worth g.G.Grade.kind g.G.Grade.value) (spans g.G.Grade.kind).lowest c.args.pieces.now c.args.t c.lookup.result.0 c.lookup.result.1 c.requires c.lookup.ensures
+    found_shown (worth g.G.Grade.kind g.G.Grade.value) (spans g.G.Grade.kind).lowest c.args.list.now.pieces.now c.args.t c.lookup.result.0 c.lookup.result.1 c.args.list.now.ok c.lookup.ensures

@@ -1,4 +1,4 @@
-use Rattle.std.proofs.Common.{length, Ok, Err, sym, refl, ap, ◌∙◌, subst}
+use Rattle.std.proofs.Common.{◌+◌, length, Ok, Err, sym, refl, ap, ◌∙◌, subst}
 use Rattle.std.proofs.lemmas.Result.{err_from_is_err_and}
 use Rattle.rules.specs.Texts.{table_of}
 use Rattle.rules.specs.Rows.{Sound, reach}
@@ -26,20 +26,20 @@ returns-in_err-judgement g c =
     let p = err_from_is_err_and c.from_residual.result c.from_residual.ensures.1 in
     let e = p.1 ∙ ap Err p.2 in
     record {
-      turn = (subst (λ r. MarkTurn K s rows c.args.tick (length cells) (length wants) (length marks) (mark_reply K val marks r)) (sym e) (refused_turn g.met.G.Grade.lawful val s rows sound c.args.tick cells after wants wants marks marks f h), refl);
+      turn = subst (λ r. MarkTurn K s rows c.args.tick (length cells) (length wants) (length marks) (mark_reply K val marks r)) (sym e) (refused_turn g.met.G.Grade.lawful val s rows sound c.args.tick cells after wants wants marks marks f h);
       cells = subst (λ r. MarkedCells K val rows (readings_of s) c.args.tick cells after wants wants marks marks r) (sym e) (refused_cells K val s rows c.args.tick cells after f h, refl, refl);
       law = c.runs_keep_the_law.ensures;
     }
 
-pub mark_table-requires : goal.mark_table-requires
-mark_table-requires g c =
+pub mark-requires : goal.mark-requires
+mark-requires g c =
     let s = state_of c.args.job.now in
     let rows = c.rows-rows.result.now in
     let h = c.in_ok-judgement.ensures in
     record {
       sound = c.rows-rows.ensures.sound;
-      tick = h.1;
-      ahead = c.reach.ensures ∙ ap reach (sym c.rows-rows.ensures.is);
+      near = h.1;
+      end = ap (λ n. c.args.tick + n + 1) (c.reach.ensures ∙ ap reach (sym c.rows-rows.ensures.is));
       stand = judged_stand g.met.G.Grade.lawful g.G.Grade.value s rows c.rows-rows.ensures.sound c.args.tick c.args.cells.now c.judge_table.new.cells c.args.wants.now c.args.wants.now c.args.marks.now c.args.marks.now c.in_ok-judgement.judgement h c.judge_table.auto.cells;
     }
 
@@ -52,9 +52,9 @@ returns-in_err-count g c =
     let cells = c.args.cells.now in
     let after = c.judge_table.new.cells in
     let wants = c.args.wants.now in
-    let wants' = c.mark_table.new.wants in
+    let wants' = c.mark.new.wants in
     let marks = c.args.marks.now in
-    let marks' = c.mark_table.new.marks in
+    let marks' = c.mark.new.marks in
     let f = c.in_err-count.field-0.0 in
     let is = c.rows-rows.ensures.is in
     let sound = subst Sound is c.rows-rows.ensures.sound in
@@ -64,7 +64,7 @@ returns-in_err-count g c =
     let p = err_from_is_err_and c.from_residual-in_err-count.result c.from_residual-in_err-count.ensures.1 in
     let e = p.1 ∙ ap Err p.2 in
     record {
-      turn = (subst (λ r. MarkTurn K s rows c.args.tick (length cells) (length wants) (length marks) (mark_reply K val marks' r)) (sym e) (short_turn g.met.G.Grade.lawful val s rows sound c.args.tick cells after wants wants' marks marks' j h f m), refl);
+      turn = subst (λ r. MarkTurn K s rows c.args.tick (length cells) (length wants) (length marks) (mark_reply K val marks' r)) (sym e) (short_turn g.met.G.Grade.lawful val s rows sound c.args.tick cells after wants wants' marks marks' j h f m);
       cells = subst (λ r. MarkedCells K val rows (readings_of s) c.args.tick cells after wants wants' marks marks' r) (sym e) (short_cells g.met.G.Grade.lawful val s rows sound c.args.tick cells after wants wants' marks marks' j h f m);
       law = c.runs_keep_the_law.ensures;
     }
@@ -78,9 +78,9 @@ returns g c =
     let cells = c.args.cells.now in
     let after = c.judge_table.new.cells in
     let wants = c.args.wants.now in
-    let wants' = c.mark_table.new.wants in
+    let wants' = c.mark.new.wants in
     let marks = c.args.marks.now in
-    let marks' = c.mark_table.new.marks in
+    let marks' = c.mark.new.marks in
     let n = c.in_ok-count.count in
     let is = c.rows-rows.ensures.is in
     let sound = subst Sound is c.rows-rows.ensures.sound in
@@ -88,7 +88,7 @@ returns g c =
     let h = subst (λ rs. JudgedTable K val s rs c.args.tick cells after (Ok j)) is c.in_ok-judgement.ensures in
     let m = subst (λ rs. MarkedTable K rs (readings_of s) c.args.tick wants wants' marks marks' (Ok n)) is c.in_ok-count.ensures in
     record {
-      turn = (marked_turn g.met.G.Grade.lawful val s rows sound c.args.tick cells after wants wants' marks marks' j h n m, refl);
+      turn = marked_turn g.met.G.Grade.lawful val s rows sound c.args.tick cells after wants wants' marks marks' j h n m;
       cells = ((h.2.0, h.2.1.0), m);
       law = c.runs_keep_the_law.ensures;
     }

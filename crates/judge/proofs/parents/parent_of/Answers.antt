@@ -27,5 +27,5 @@ loop-k-preserved c =
     let same : get_or rows k none ≡ row_at rows k = get_or_default rows k none (Not 0) c.loop-k-test.true in
     none_more rows c.args.c k c.loop-k.invariant (sym (c.if-has_child.ensures ∙ ap (λ (r : Row). is_child r c.args.c) same))
 
-pub returns : goal.returns
-returns c = absurd (never_none c.args.rows.now c.args.c c.requires.sound c.requires.not_last c.loop-k.k (omega arith) c.loop-k.invariant)
+pub unreachable-requires : goal.unreachable-requires
+unreachable-requires c = never_none c.args.rows.now c.args.c c.requires.sound c.requires.not_last c.loop-k.k (omega arith) c.loop-k.invariant

@@ -10,8 +10,8 @@ pub loop-next-init : goal.loop-next-init
 loop-next-init g c =
     let K = g.G.Grade.kind in (
       c.args.first,
-      gathering_first (joins g.met.G.Grade.lawful c.args.way) (heard K g.G.Grade.value c.args.child.now) c.args.first c.args.end
-          (worth K g.G.Grade.value c.look-range.result.0) c.look-range.result.1 c.requires.window c.look-range.ensures,
+      gathering_first (joins g.met.G.Grade.lawful c.args.way) (heard K g.G.Grade.value c.args.child.now.pieces.now) c.args.first c.args.end
+          (worth K g.G.Grade.value c.look-range.result.0) c.look-range.result.1 c.requires c.look-range.ensures,
     )
 
 pub loop-next-preserved : goal.loop-next-preserved
@@ -20,7 +20,7 @@ loop-next-preserved g c =
     let W = worth K g.G.Grade.value in
     let i = c.loop-next.invariant in (
       c.in-Some.u,
-      gathering_more (joins g.met.G.Grade.lawful c.args.way) (heard K g.G.Grade.value c.args.child.now) c.args.first c.args.end i.0 c.loop-next.next (W c.loop-next.all) i.1
+      gathering_more (joins g.met.G.Grade.lawful c.args.way) (heard K g.G.Grade.value c.args.child.now.pieces.now) c.args.first c.args.end i.0 c.loop-next.next (W c.loop-next.all) i.1
           c.in-Some.u (W c.look-range-in-Some.result.0) (W c.combine-all.result) c.look-range-in-Some.result.1 c.in-Some.is c.if-u-end.false c.combine-all.ensures c.look-range-in-Some.ensures,
     )
 
@@ -28,7 +28,7 @@ pub returns : goal.returns
 returns g c =
     let K = g.G.Grade.kind in
     let J = joins g.met.G.Grade.lawful c.args.way in
-    let f = heard K g.G.Grade.value c.args.child.now in
+    let f = heard K g.G.Grade.value c.args.child.now.pieces.now in
     let s = c.args.first in
     let e = c.args.end in
     let x = worth K g.G.Grade.value c.loop-next.all in
@@ -37,4 +37,4 @@ returns g c =
     let late : Later e next = elim c.match-next.branch [ in-Some+then-u-end w ↦ subst (Later e) (sym w.next-is) w.if-u-end.true | in_default w ↦ subst (Later e) (sym (w.next-is ∙ w.in_default.is)) tt ] in
     let at = c.loop-next.invariant.0 in
     let G = subst (λ o. Gathering (under K c.args.way) f s e at o x) (sym same) c.loop-next.invariant.1 in
-    record { all = gathering_whole J f s e at next x G c.requires.window late; next = gathering_stays J f s e at next x G late }
+    record { all = gathering_whole J f s e at next x G c.requires late; next = gathering_stays J f s e at next x G late }

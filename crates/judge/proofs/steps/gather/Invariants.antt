@@ -8,7 +8,7 @@ use Rattle.judge.proofs.steps.gather.Given as goal
 abbrev pub invariant-loop-next : goal.invariant-loop-next
 invariant-loop-next g l =
     let K = g.G.Grade.kind in
-    (at : ℕ) × Gathering (under K l.way) (heard K g.G.Grade.value l.child) l.first l.end at l.next (worth K g.G.Grade.value l.all)
+    (at : ℕ) × Gathering (under K l.way) (heard K g.G.Grade.value l.child.pieces.now) l.first l.end at l.next (worth K g.G.Grade.value l.all)
 
 abbrev pub decreases-loop-next : goal.decreases-loop-next
 decreases-loop-next g l = left l.next

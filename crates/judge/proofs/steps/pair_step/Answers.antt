@@ -8,8 +8,8 @@ pub returns : goal.returns
 returns g c =
     let K = g.G.Grade.kind in
     let W = worth K g.G.Grade.value in
-    let l = heard K g.G.Grade.value c.args.left.now in
-    let r = heard K g.G.Grade.value c.args.right.now in
+    let l = heard K g.G.Grade.value c.args.left.now.pieces.now in
+    let r = heard K g.G.Grade.value c.args.right.now.pieces.now in
     let f = op K c.args.way in
     let x = W c.look-one.result.0 in
     let y = W c.look-other.result.0 in

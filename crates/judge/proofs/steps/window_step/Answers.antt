@@ -9,12 +9,12 @@ pub returns : goal.returns
 returns g c =
     let K = g.G.Grade.kind in
     let W = worth K g.G.Grade.value in
-    let f = heard K g.G.Grade.value c.args.child.now in
+    let f = heard K g.G.Grade.value c.args.child.now.pieces.now in
     let a = c.args.from in
     let b = c.args.to in
     let t = c.args.t in
     let leaves = c.look-leaves.result.1 in
     let next = c.gather-all.result.1 in
-    window_steady (joins g.met.G.Grade.lawful c.args.way) f t a b (W c.gather-all.result.0) leaves next c.first_of.result c.requires.window c.gather-all.ensures.all
+    window_steady (joins g.met.G.Grade.lawful c.args.way) f t a b (W c.gather-all.result.0) leaves next c.first_of.result c.requires c.gather-all.ensures.all
     (self_steady f (t + a) (W c.look-leaves.result.0) leaves c.look-leaves.ensures) c.gather-all.ensures.next
     (moved c.first_of.result c.moved_back.result c.moved_back-2.result leaves next a b c.first_of.ensures c.moved_back.ensures c.moved_back-2.ensures)

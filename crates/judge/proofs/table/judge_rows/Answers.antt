@@ -18,6 +18,6 @@ returns g c =
         w.1.0,
         w.1.1,
         complete_verdict K g.G.Grade.value c.args.rows.now (g.L.Lines.x c.args.lines.now) c.args.cells.now c.write_rows.new.cells w.0 c.in_ok-begins.begins c.write_rows.auto.cells w.1.0 w.1.1
-            c.requires.sound.some_row c.list.result.now c.list.ensures.is c.args.tick (worth K g.G.Grade.value c.look-verdict.result.0) c.look-verdict.result.1 c.look-verdict.ensures,
+            c.requires.sound.some_row c.list.result.pieces.now c.list.ensures c.args.tick (worth K g.G.Grade.value c.look-verdict.result.0) c.look-verdict.result.1 c.look-verdict.ensures,
       ),
     )

@@ -15,8 +15,11 @@ write_row-requires g c =
     let rows = c.args.rows.now in
     let k = c.loop-k.k in
     let none = Test 0 AtLeast (pos 0) in
-    filled_ready g.G.Grade.kind g.G.Grade.value rows (g.L.Lines.x c.args.lines.now) c.args.cells.now k c.loop-k.begins c.loop-k.cells c.loop-k.used c.loop-k.invariant
-    c.requires.sound c.loop-k-test.true (get_or rows k none) (get_or_default rows k none (Not 0) c.loop-k-test.true)
+    record {
+      within = c.loop-k.invariant.stacked.within;
+      ready = filled_ready g.G.Grade.kind g.G.Grade.value rows (g.L.Lines.x c.args.lines.now) c.args.cells.now k c.loop-k.begins c.loop-k.cells c.loop-k.used c.loop-k.invariant
+          c.requires.sound c.loop-k-test.true (get_or rows k none) (get_or_default rows k none (Not 0) c.loop-k-test.true);
+    }
 
 pub returns-in_err-used : goal.returns-in_err-used
 returns-in_err-used g c =

@@ -12,7 +12,7 @@ pub loop-next-init : goal.loop-next-init
 loop-next-init g c =
     let K = g.G.Grade.kind in
     let W = worth K g.G.Grade.value in
-    walking_first K (heard K g.G.Grade.value c.args.left.now) (heard K g.G.Grade.value c.args.right.now) c.args.t g.met.G.Grade.lawful c.args.first c.args.end
+    walking_first K (heard K g.G.Grade.value c.args.left.now.pieces.now) (heard K g.G.Grade.value c.args.right.now.pieces.now) c.args.t g.met.G.Grade.lawful c.args.first c.args.end
     (W c.gather-more.result.0) (W c.look-after.result.0) (W c.lower-all.result) c.gather-more.result.1 c.look-after.result.1 c.first_of-leaves.result
     c.requires.start c.gather-more.ensures.all c.gather-more.ensures.next c.look-after.ensures c.first_of-leaves.ensures c.requires.window c.lower-all.ensures
 
@@ -20,7 +20,7 @@ pub loop-next-preserved : goal.loop-next-preserved
 loop-next-preserved g c =
     let K = g.G.Grade.kind in
     let W = worth K g.G.Grade.value in
-    walking_more K (heard K g.G.Grade.value c.args.left.now) (heard K g.G.Grade.value c.args.right.now) c.args.t g.met.G.Grade.lawful c.args.first c.args.end
+    walking_more K (heard K g.G.Grade.value c.args.left.now.pieces.now) (heard K g.G.Grade.value c.args.right.now.pieces.now) c.args.t g.met.G.Grade.lawful c.args.first c.args.end
     c.loop-next.next (W c.loop-next.all) (W c.loop-next.low) c.requires.start c.loop-next.invariant
     c.in-Some.u (W c.look-m.result.0) (W c.look-n.result.0) (W c.lower-low.result) (W c.lower-both.result) (W c.upper-all.result) c.look-m.result.1 c.look-n.result.1 c.first_of-next.result
     c.in-Some.is c.if-u-end.false c.look-m.ensures c.look-n.ensures c.first_of-next.ensures c.lower-low.ensures c.lower-both.ensures c.upper-all.ensures
@@ -30,8 +30,8 @@ returns g c =
     let K = g.G.Grade.kind in
     let W = worth K g.G.Grade.value in
     let L = g.met.G.Grade.lawful in
-    let l = heard K g.G.Grade.value c.args.left.now in
-    let r = heard K g.G.Grade.value c.args.right.now in
+    let l = heard K g.G.Grade.value c.args.left.now.pieces.now in
+    let r = heard K g.G.Grade.value c.args.right.now.pieces.now in
     let t = c.args.t in
     let s = c.args.first in
     let e = c.args.end in

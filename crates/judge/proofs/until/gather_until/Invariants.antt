@@ -8,7 +8,7 @@ abbrev pub invariant-loop-next : goal.invariant-loop-next
 invariant-loop-next g l =
     let K = g.G.Grade.kind in
     let W = worth K g.G.Grade.value in
-    Walking K (heard K g.G.Grade.value l.left) (heard K g.G.Grade.value l.right) l.t l.first l.end l.next (W l.all) (W l.low)
+    Walking K (heard K g.G.Grade.value l.left.pieces.now) (heard K g.G.Grade.value l.right.pieces.now) l.t l.first l.end l.next (W l.all) (W l.low)
 
 abbrev pub decreases-loop-next : goal.decreases-loop-next
 decreases-loop-next g l = left l.next

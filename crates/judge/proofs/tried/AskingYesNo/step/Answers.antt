@@ -16,7 +16,7 @@ returns g c =
     let val = λ (r : Range g.row.G.Denot). tried K Loose (worth K g.G.Grade.value r) in
     let want : ℕ → Bool = at_list s.want.pieces.now s.want.ok in
     let loose : ℕ → Bool = range_says K g.G.Grade.value Loose s.range.pieces.now s.range.ok in
-    let one = found_steady (λ (b : Bool). b) s.want.pieces.now s.want.ok t c.at-wanted.result.0 c.at-wanted.result.1 c.at-wanted.ensures in
-    let two = found_steady val s.range.pieces.now s.range.ok t c.at-range.result.0 c.at-range.result.1 c.at-range.ensures in
-    let both = both_steady want loose t c.at-wanted.result.0 (val c.at-range.result.0) c.at-wanted.result.1 c.at-range.result.1 ◌&&◌ one two in
-    steady_as (asked want loose) t _ _ _ _ (ap (λ (b : Bool). c.at-wanted.result.0 && b) c.try_range-loose.ensures) c.first_of.ensures both
+    let one = found_steady (λ (b : Bool). b) s.want.pieces.now s.want.ok t c.lookup-wanted.result.0 c.lookup-wanted.result.1 c.lookup-wanted.ensures in
+    let two = found_steady val s.range.pieces.now s.range.ok t c.lookup-range.result.0 c.lookup-range.result.1 c.lookup-range.ensures in
+    let both = both_steady want loose t c.lookup-wanted.result.0 (val c.lookup-range.result.0) c.lookup-wanted.result.1 c.lookup-range.result.1 ◌&&◌ one two in
+    steady_as (asked want loose) t _ _ _ _ (ap (λ (b : Bool). c.lookup-wanted.result.0 && b) c.try_range-loose.ensures) c.first_of.ensures both

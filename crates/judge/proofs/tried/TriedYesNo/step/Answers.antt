@@ -10,4 +10,4 @@ pub returns : goal.returns
 returns g c =
     let s = c.args.self.now in
     let val = λ (r : Range g.row.G.Denot). tried g.G.Grade.kind s.by (worth g.G.Grade.kind g.G.Grade.value r) in
-    steady_as _ c.args.t _ _ _ _ c.try_range.ensures refl (found_steady val s.of.pieces.now s.of.ok c.args.t c.at-range.result.0 c.at-range.result.1 c.at-range.ensures)
+    steady_as _ c.args.t _ _ _ _ c.try_range.ensures refl (found_steady val s.of.pieces.now s.of.ok c.args.t c.lookup-range.result.0 c.lookup-range.result.1 c.lookup-range.ensures)

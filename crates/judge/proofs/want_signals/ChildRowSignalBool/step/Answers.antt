@@ -1,0 +1,72 @@
+use Rattle.std.proofs.Common.{refl, inl, inr, eq-eqb, ne_eqb}
+use Rattle.rules.specs.declared.row.Row.TheVariants.{Until}
+use Rattle.judge.specs.declared.trial.Trial.TheVariants.{Lowest, Higher}
+use Rattle.judge.proofs.RowSteps.{stands}
+use Rattle.judge.proofs.WantSteps.{asks_said, trial_said, passed, passed_right, passed_left}
+use Rattle.judge.proofs.want_signals.ChildRowSignalBool.step.Goals as goal
+
+pub list-requires : goal.list-requires
+list-requires g c = stands c.args.self.now.row (Until c.in-Until.from c.in-Until.to c.in-Until.left c.in-Until.right) c.args.self.now.ranges.begins.now c.args.self.now.ranges.cells.now c.args.self.now.askable.ready c.in-Until.is c.in-Until.left (inl refl)
+
+pub list-requires-else-self-right : goal.list-requires-else-self-right
+list-requires-else-self-right g c = stands c.args.self.now.row (Until c.in-Until.from c.in-Until.to c.in-Until.left c.in-Until.right) c.args.self.now.ranges.begins.now c.args.self.now.ranges.cells.now c.args.self.now.askable.ready c.in-Until.is c.in-Until.right (inr refl)
+
+pub returns-in-Not-clause-steady : goal.returns-in-Not-clause-steady
+returns-in-Not-clause-steady g c =
+    let range = c.list-range in
+    passed g.G.Grade.kind g.G.Grade.value c.args.self.now.ranges.begins.now c.args.self.now.ranges.cells.now c.args.self.now.row _ c.in-Not.is c.args.self.now.number c.args.self.now.child c.args.self.now.limit c.args.t c.args.self.now.want.pieces.now _
+    (asks_said g.G.Grade.kind g.G.Grade.value c.args.self.now.ranges.begins.now c.args.self.now.ranges.cells.now c.args.self.now.want.pieces.now _ c.args.self.now.number range.result.pieces.now range.result.ok range.ensures) c.right_at.result.0 c.right_at.result.1 c.right_at.ensures
+
+pub returns-in-And-clause-steady : goal.returns-in-And-clause-steady
+returns-in-And-clause-steady g c =
+    let range = c.list-range in
+    passed g.G.Grade.kind g.G.Grade.value c.args.self.now.ranges.begins.now c.args.self.now.ranges.cells.now c.args.self.now.row _ c.in-And.is c.args.self.now.number c.args.self.now.child c.args.self.now.limit c.args.t c.args.self.now.want.pieces.now _
+    (asks_said g.G.Grade.kind g.G.Grade.value c.args.self.now.ranges.begins.now c.args.self.now.ranges.cells.now c.args.self.now.want.pieces.now _ c.args.self.now.number range.result.pieces.now range.result.ok range.ensures) c.right_at-in-And.result.0 c.right_at-in-And.result.1 c.right_at-in-And.ensures
+
+pub returns-in-Or-clause-steady : goal.returns-in-Or-clause-steady
+returns-in-Or-clause-steady g c =
+    let range = c.list-range in
+    passed g.G.Grade.kind g.G.Grade.value c.args.self.now.ranges.begins.now c.args.self.now.ranges.cells.now c.args.self.now.row _ c.in-Or.is c.args.self.now.number c.args.self.now.child c.args.self.now.limit c.args.t c.args.self.now.want.pieces.now _
+    (asks_said g.G.Grade.kind g.G.Grade.value c.args.self.now.ranges.begins.now c.args.self.now.ranges.cells.now c.args.self.now.want.pieces.now _ c.args.self.now.number range.result.pieces.now range.result.ok range.ensures) c.right_at-in-Or.result.0 c.right_at-in-Or.result.1 c.right_at-in-Or.ensures
+
+pub returns-in-Eventually-clause-steady : goal.returns-in-Eventually-clause-steady
+returns-in-Eventually-clause-steady g c =
+    let range = c.list-range in
+    passed g.G.Grade.kind g.G.Grade.value c.args.self.now.ranges.begins.now c.args.self.now.ranges.cells.now c.args.self.now.row _ c.in-Eventually.is c.args.self.now.number c.args.self.now.child c.args.self.now.limit c.args.t c.args.self.now.want.pieces.now _
+    (asks_said g.G.Grade.kind g.G.Grade.value c.args.self.now.ranges.begins.now c.args.self.now.ranges.cells.now c.args.self.now.want.pieces.now _ c.args.self.now.number range.result.pieces.now range.result.ok range.ensures) c.right_at-in-Eventually.result.0 c.right_at-in-Eventually.result.1 c.right_at-in-Eventually.ensures
+
+pub returns-in-Always-clause-steady : goal.returns-in-Always-clause-steady
+returns-in-Always-clause-steady g c =
+    let range = c.list-range in
+    passed g.G.Grade.kind g.G.Grade.value c.args.self.now.ranges.begins.now c.args.self.now.ranges.cells.now c.args.self.now.row _ c.in-Always.is c.args.self.now.number c.args.self.now.child c.args.self.now.limit c.args.t c.args.self.now.want.pieces.now _
+    (asks_said g.G.Grade.kind g.G.Grade.value c.args.self.now.ranges.begins.now c.args.self.now.ranges.cells.now c.args.self.now.want.pieces.now _ c.args.self.now.number range.result.pieces.now range.result.ok range.ensures) c.right_at-in-Always.result.0 c.right_at-in-Always.result.1 c.right_at-in-Always.ensures
+
+pub returns-then-self-right-clause-steady : goal.returns-then-self-right-clause-steady
+returns-then-self-right-clause-steady g c =
+    let K = g.G.Grade.kind in
+    let val = g.G.Grade.value in
+    let begins = c.args.self.now.ranges.begins.now in
+    let ranges = c.args.self.now.ranges.cells.now in
+    let range = c.list-range in
+    let left = c.list in
+    let u = c.in-Until in
+    let called = c.right_at-then-self-right in
+    passed_right K val begins ranges c.args.self.now.row u.from u.to u.left u.right u.is c.args.self.now.number c.args.self.now.child c.args.self.now.limit c.args.t c.args.self.now.want.pieces.now _
+    (asks_said K val begins ranges c.args.self.now.want.pieces.now _ c.args.self.now.number range.result.pieces.now range.result.ok range.ensures) _
+    (trial_said K val begins ranges Lowest u.left left.result.pieces.now left.result.ok left.ensures) called.result.0 called.result.1 (eq-eqb c.args.self.now.child u.right c.if-self-right.true) called.ensures
+
+pub returns-else-self-right-clause-steady : goal.returns-else-self-right-clause-steady
+returns-else-self-right-clause-steady g c =
+    let K = g.G.Grade.kind in
+    let val = g.G.Grade.value in
+    let begins = c.args.self.now.ranges.begins.now in
+    let ranges = c.args.self.now.ranges.cells.now in
+    let range = c.list-range in
+    let left = c.list in
+    let right = c.list-else-self-right in
+    let u = c.in-Until in
+    let called = c.left_at in
+    passed_left K val begins ranges c.args.self.now.row u.from u.to u.left u.right u.is c.args.self.now.number c.args.self.now.child c.args.self.now.limit c.args.t c.args.self.now.want.pieces.now _
+    (asks_said K val begins ranges c.args.self.now.want.pieces.now _ c.args.self.now.number range.result.pieces.now range.result.ok range.ensures) _
+    (trial_said K val begins ranges Lowest u.left left.result.pieces.now left.result.ok left.ensures) called.result.0 called.result.1 (ne_eqb c.args.self.now.child u.right c.if-self-right.false) _
+    (trial_said K val begins ranges Higher u.right right.result.pieces.now right.result.ok right.ensures) called.ensures
