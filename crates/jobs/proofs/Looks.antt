@@ -1,7 +1,7 @@
 -- What a line's pieces tell of it: what it reads at a tick, and where first nothing is known.
 use Rattle.std.proofs.Common.{◌≡◌, ℕ, zero, suc, ◌+◌, ◌<◌, ◌≤◌, cond, List, [], ◌∷◌, length, get_or, take, Some, None, Option, unwrap_or, sym, refl, ap, ◌∙◌, subst, ⊎_elim, arith, le-leb}
 use borrow.Author.Tests.{lt-leb}
-use Rattle.std.specs.List.{AllByRecursion as All}
+use Rattle.std.specs.List.{AllByRecursion}
 use Rattle.std.proofs.lemmas.Bool.{cases_lt}
 use Rattle.std.proofs.ByRecursion.{All-more}
 use Rattle.pieces.specs.declared.piece.Piece.{Piece}
@@ -47,7 +47,7 @@ module _ (ps qs : List (Piece Reading)) (e : qs ≡ ps) (c : Canonical ps) (p v 
 abbrev pub Narrow : Piece Reading → Type 0
 Narrow p = p.value ≡ widest → ⊥
 
-narrow_all : (v : Reading) (ps : List (Piece Reading)) (t : ℕ) → (v ≡ widest → ⊥) → All Narrow ps → at_from v ps t ≡ widest → ⊥
+narrow_all : (v : Reading) (ps : List (Piece Reading)) (t : ℕ) → (v ≡ widest → ⊥) → AllByRecursion Narrow ps → at_from v ps t ≡ widest → ⊥
 narrow_all v [] t n a = n
 narrow_all v (p ∷ ps) t n a = ⊎_elim
     (λ h. λ e. n (sym (ap (λ b. cond b (at_from p.value ps t) v) (lt-leb p.start t h)) ∙ e))
@@ -55,7 +55,7 @@ narrow_all v (p ∷ ps) t n a = ⊎_elim
     (cases_lt t p.start)
 
 -- some piece is the widest
-pub some_wide : (ps : List (Piece Reading)) → Kept ps → All Narrow ps → ⊥
+pub some_wide : (ps : List (Piece Reading)) → Kept ps → AllByRecursion Narrow ps → ⊥
 some_wide [] k a = k.0
 some_wide (p ∷ ps) k a = narrow_all p.value ps 1000000001 a.0 a.1 (k.1 1000000001 (omega arith))
 
@@ -70,7 +70,7 @@ risen p [] (suc i) d r h = absurd (omega arith)
 risen p (q ∷ qs) (suc i) d r h = let k = risen q qs i d r.2 (omega arith) in omega (arith, r.0)
 
 -- the start of the first piece that is the widest
-first_at : (p : Piece Reading) (ps : List (Piece Reading)) (i : ℕ) (d : Piece Reading) → Rising p ps → i < length (p ∷ ps) → All Narrow (take i (p ∷ ps)) → (get_or (p ∷ ps) i d).value ≡ widest →
+first_at : (p : Piece Reading) (ps : List (Piece Reading)) (i : ℕ) (d : Piece Reading) → Rising p ps → i < length (p ∷ ps) → AllByRecursion Narrow (take i (p ∷ ps)) → (get_or (p ∷ ps) i d).value ≡ widest →
     (at_from p.value ps (get_or (p ∷ ps) i d).start ≡ widest) × ((u : ℕ) → u < (get_or (p ∷ ps) i d).start → p.start ≤ u → at_from p.value ps u ≡ widest → ⊥)
 first_at p ps zero d r h a e = (early p ps r ∙ e, λ u l m. absurd (omega arith))
 first_at p [] (suc i) d r h a e = absurd (omega arith)
@@ -88,14 +88,14 @@ first_at p (q ∷ qs) (suc i) d r h a e =
 abbrev FirstWide : List (Piece Reading) → ℕ → Type 0
 FirstWide ps t = (reading_at ps t ≡ widest) × ((u : ℕ) → u < t → reading_at ps u ≡ widest → ⊥)
 
-pub first_is : (ps : List (Piece Reading)) (i : ℕ) (x : Piece Reading) → Canonical ps → i < length ps → All Narrow (take i ps) → x ≡ get_or ps i x → x.value ≡ widest → FirstWide ps x.start
+pub first_is : (ps : List (Piece Reading)) (i : ℕ) (x : Piece Reading) → Canonical ps → i < length ps → AllByRecursion Narrow (take i ps) → x ≡ get_or ps i x → x.value ≡ widest → FirstWide ps x.start
 first_is [] i x c h a r e = absurd c
 first_is (p ∷ ps) i x c h a r e =
     let f = first_at p ps i x c.1 h a (sym (ap (λ (q : Piece Reading). q.value) r) ∙ e) in
     subst (λ (q : Piece Reading). FirstWide (p ∷ ps) q.start) (sym r) (f.0, λ u l. f.1 u l (omega (arith, c.0)))
 
 -- a piece more of which something is known
-pub narrow_more : (ps : List (Piece Reading)) (i : ℕ) (x : Piece Reading) → i < length ps → All Narrow (take i ps) → x ≡ get_or ps i x → Narrow x → All Narrow (take (i + 1) ps)
+pub narrow_more : (ps : List (Piece Reading)) (i : ℕ) (x : Piece Reading) → i < length ps → AllByRecursion Narrow (take i ps) → x ≡ get_or ps i x → Narrow x → AllByRecursion Narrow (take (i + 1) ps)
 narrow_more ps i x h a r n = All-more Narrow ps i x h a (subst Narrow r n)
 
 pub first_unknown_at : (s : State) (k t : ℕ) (ps : List (Piece Reading)) → get_or s.lines k [] ≡ ps → FirstWide ps t → FirstUnknown (readings_of s) k t

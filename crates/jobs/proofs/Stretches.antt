@@ -1,6 +1,7 @@
 -- The list of what a line reads, with a reading set on a stretch, from the list of what it read before.
-use Rattle.std.proofs.Common.{◌≡◌, ℕ, zero, suc, ◌+◌, ◌-◌, ◌<◌, ◌≤◌, cond, List, [], ◌∷◌, ◌++◌, length, get_or, take, drop, Some, None, Option, sym, refl, ap, ◌∙◌, subst, inl, inr, ⊎_elim, arith, le-ltb, lt-ltb}
-use Rattle.std.proofs.lemmas.List.{drop_more, drop_all}
+use Rattle.std.proofs.Common.{◌≡◌, ℕ, zero, suc, ◌+◌, ◌-◌, ◌<◌, ◌≤◌, true, false, cond, ltb, List, [], ◌∷◌, ◌++◌, length, get_or, take, drop, Some, None, Option, sym, refl, ap, ◌∙◌, subst, inl, inr, ⊎_elim, arith, le-ltb, lt-ltb, ltb-true}
+use Rattle.std.specs.List.Sorted.{IsPartitionPoint}
+use Rattle.std.proofs.lemmas.Bool.{ltb-false}
 use Rattle.std.proofs.lemmas.Bool.{cases_lt}
 use Rattle.pieces.specs.declared.piece.Piece.{Piece}
 use Rattle.pieces.specs.Ticks.{Before, Steady}
@@ -24,19 +25,13 @@ module _ (t : ℕ) (p : Piece Reading) (ps : List (Piece Reading)) where
   lead_no : t ≤ p.start → lead t (p ∷ ps) ≡ 0
   lead_no h = ap (λ b. cond b (suc (lead t ps)) 0) (le-ltb p.start t h)
 
--- a walk over the pieces: x is the one at k
-module _ (t : ℕ) (ps : List (Piece Reading)) (k : ℕ) (x : Piece Reading) (h : k < length ps) (is : x ≡ get_or ps k x) where
-  split : drop k ps ≡ x ∷ drop (k + 1) ps
-  split = drop_more ps k x h ∙ ap (λ (q : Piece Reading). q ∷ drop (k + 1) ps) (sym is)
-
-  pub lead_step : x.start < t → lead t (drop k ps) ≡ suc (lead t (drop (k + 1) ps))
-  lead_step l = ap (lead t) split ∙ lead_yes t x (drop (k + 1) ps) l
-
-  pub lead_stop : t ≤ x.start → lead t (drop k ps) ≡ 0
-  lead_stop l = ap (lead t) split ∙ lead_no t x (drop (k + 1) ps) l
-
-pub lead_end : (t : ℕ) (ps : List (Piece Reading)) (k : ℕ) → length ps ≤ k → lead t (drop k ps) ≡ 0
-lead_end t ps k h = ap (lead t) (drop_all k ps h)
+-- so many pieces start before t, and the others at t or behind
+pub lead_splits : (t : ℕ) (ps : List (Piece Reading)) (n : ℕ) → n ≤ length ps → IsPartitionPoint (λ (p : Piece Reading). ltb p.start t ≡ true) (λ (p : Piece Reading). ltb p.start t ≡ false) ps n → n ≡ lead t ps
+lead_splits t [] n h s = omega arith
+lead_splits t (p ∷ ps) zero h s = sym (lead_no t p ps (ltb-false p.start t (s.1 0 p (omega arith) (omega arith))))
+lead_splits t (p ∷ ps) (suc n) h s =
+    ap suc (lead_splits t ps n (omega arith) (λ k d l u. s.0 (suc k) d (omega arith) (omega arith), λ k d l u. s.1 (suc k) d (omega arith) (omega arith)))
+    ∙ sym (lead_yes t p ps (ltb-true p.start t (s.0 0 p (omega arith) (omega arith))))
 
 lead_within : (t : ℕ) (ps : List (Piece Reading)) → lead t ps ≤ length ps
 lead_within t [] = omega arith

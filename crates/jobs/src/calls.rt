@@ -7,7 +7,6 @@ ghost use Rattle.jobs.specs.Jobs.{state_of, cells_of, Looked};
 
 use crate::fault::{EnterFault, NoSuchLine};
 use crate::job::Job;
-use crate::look::{first_wide, list_of};
 use meaning::reading::Reading;
 
 impl<'a> Job<'a> {
@@ -24,7 +23,7 @@ impl<'a> Job<'a> {
         if line as usize >= self.held.lines {
             return None;
         }
-        Some(list_of(self.held.pieces(line as usize)).lookup(t))
+        Some(self.held.line(line as usize).list().lookup(t))
     }
 
     // Sets a reading from one tick to the tick before another, where it narrows what stands there.
@@ -50,7 +49,7 @@ impl<'a> Job<'a> {
         if line as usize >= self.held.lines {
             return Err(NoSuchLine);
         }
-        Ok(first_wide(self.held.pieces(line as usize)))
+        Ok(self.held.line(line as usize).first_wide())
     }
 
     // How many entries were accepted.

@@ -7,8 +7,6 @@ ghost use Rattle.jobs.specs.Entries.{Barred, Ready, Checked, Changes};
 
 use crate::fault::EnterFault;
 use crate::held::{Held, LINE_CELLS};
-use crate::look::narrows;
-use crate::plan::plan;
 use crate::splice::{size_after, splice};
 use meaning::reading::Reading;
 
@@ -51,7 +49,7 @@ impl<'a> Held<'a> {
         let Some(reading) = Reading::new(lower, upper) else {
             return Err(EnterFault::NotReading);
         };
-        if !narrows(self.pieces(line), from, to, reading) {
+        if !self.line(line).narrows(from, to, reading) {
             return Err(EnterFault::NotInside);
         }
         Ok(reading)
@@ -72,7 +70,7 @@ impl<'a> Held<'a> {
         ensures turn { JobTurn (held_state self.old) (enter line from to reading.lower reading.upper) (enter_reply result) (held_state self.new) }
         ensures cells { Changes line (held_cells self.old) (held_cells self.new) result }
     {
-        let edit = plan(self.pieces(line), from, to, reading);
+        let edit = self.line(line).plan(from, to, reading);
         let count = self.counts[line];
         let size = size_after(edit, count);
         if size > ROOM {

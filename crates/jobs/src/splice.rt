@@ -12,10 +12,7 @@ fn size(piece: Option<Piece<Reading>>) -> usize
     ensures is { result ≡ length (optional piece) }
     ensures small { result ≤ 1 }
 {
-    match piece {
-        Some(_) => 1,
-        None => 0,
-    }
+    piece.is_some() as usize
 }
 
 // Writes the piece, if there is one, and gives the place behind it.

@@ -1,8 +1,9 @@
 -- Readings are the same where their ends are; what an entry sets.
-use Rattle.std.proofs.Common.{◌≡◌, ℕ, ◌<◌, ◌≤◌, Bool, true, false, ◌⊎◌, ℤ, ◌≤ℤ◌, inl, inr, arith}
+use Rattle.std.proofs.Common.{◌≡◌, ℕ, ◌<◌, ◌≤◌, Bool, true, false, ◌&&◌, ◌⊎◌, ℤ, ◌≤ℤ◌, int_eq, Decides, refl, ap, inl, inr, arith}
+use borrow.Author.Tests.{clash}
 use mathlib.Core.Path.{PathP}
 use mathlib.Core.HLevel.{is_prop→PathP}
-use Rattle.std.proofs.lemmas.Bool.Decides.{nat_tests}
+use Rattle.std.proofs.lemmas.Bool.Decides.{nat_tests, Decides-and, Decides-int_eq}
 use denote.Struct.Props.{props}
 use Rattle.grades.specs.Kinds.{Tells}
 use Rattle.rules.specs.Rows.{NumberFits}
@@ -24,6 +25,17 @@ reading_same p q e f = λ i. record {
 pub tells_as : {P Q : Type 0} (b : Bool) → (P → Q) → (Q → P) → Tells b P → Tells b Q
 tells_as true f g h = f h
 tells_as false f g h = λ q. h (g q)
+
+tells_decided : {P : Type 0} (b : Bool) → Decides b P → Tells b P
+tells_decided true h = h.0 refl
+tells_decided false h = λ p. clash (h.1 p)
+
+-- readings are the same exactly where their ends are
+pub ends_tell : (p q : Reading) → Tells (int_eq p.lower q.lower && int_eq p.upper q.upper) (p ≡ q)
+ends_tell p q =
+    let b : Bool = int_eq p.lower q.lower && int_eq p.upper q.upper in
+    tells_as b (λ h. reading_same p q h.0 h.1) (λ e. (ap (λ (r : Reading). r.lower) e, ap (λ (r : Reading). r.upper) e))
+    (tells_decided b (Decides-and (int_eq p.lower q.lower) (int_eq p.upper q.upper) (Decides-int_eq p.lower q.lower) (Decides-int_eq p.upper q.upper)))
 
 module _ (x : Readings) (line from to : ℕ) (p : Reading) where
   pub entered_here : (t : ℕ) → from ≤ t → t < to → entered x line from to p line t ≡ p

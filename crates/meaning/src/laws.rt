@@ -18,77 +18,61 @@ ghost use Rattle.meaning.specs.Marks.{Tests, Listed, Marked, Marks, AtMarks};
 use grades::grade::Grade;
 
 // An entry sets its reading on its line's stretch, and leaves all other readings as they are.
-pub fn entries_set_stretches() -> u8
+pub fn entries_set_stretches()
     ensures here { (x : Readings) (line from to t : ℕ) (p : Reading) → from ≤ t → t < to → entered x line from to p line t ≡ p }
     ensures elsewhere { (x : Readings) (line from to k t : ℕ) (p : Reading) → ¬ (k ≡ line) ⊎ ((t < from) ⊎ (to ≤ t)) →
         entered x line from to p k t ≡ x k t }
-{
-    0
-}
+{}
 
 // A row's value is what the row means, in grades and in ranges, and no other value is.
-pub fn rows_mean<G: Grade>() -> u8
+pub fn rows_mean<G: Grade>()
     ensures grades { (rows : List Row) (y : Readings) (k t : ℕ) → Sound rows → k < length rows →
         Means G.kind (grade_of G.kind) y (value (grades G.kind) rows y) (row_at rows k) t (value (grades G.kind) rows y k t) }
     ensures ranges { (rows : List Row) (x : Readings) → Sound rows → Meant G.kind rows x (value (ranges G.kind) rows x) }
     ensures once { (rows : List Row) (x : Readings) (v w : ℕ → ℕ → Span G.kind.Value) → Sound rows →
         Meant G.kind rows x v → Meant G.kind rows x w → (k t : ℕ) → k < length rows → v k t ≡ w k t }
-{
-    0
-}
+{}
 
 // A verdict's lower end is at most its upper end.
-pub fn ranges_are_proper<G: Grade>() -> u8
+pub fn ranges_are_proper<G: Grade>()
     ensures { (rows : List Row) (x : Readings) (t : ℕ) → Sound rows → Proper G.kind (verdict G.kind rows x t) }
-{
-    0
-}
+{}
 
 // As readings narrow, so do verdicts.
-pub fn verdicts_nest<G: Grade>() -> u8
+pub fn verdicts_nest<G: Grade>()
     ensures { (rows : List Row) (x y : Readings) (t : ℕ) → Sound rows → AllWithin y x →
         Inside G.kind (verdict G.kind rows y t) (verdict G.kind rows x t) }
-{
-    0
-}
+{}
 
 // A verdict holds the grade of each exact job inside the readings.
-pub fn verdicts_hold_exact_grades<G: Grade>() -> u8
+pub fn verdicts_hold_exact_grades<G: Grade>()
     ensures { (rows : List Row) (x y : Readings) (t : ℕ) → Sound rows → AllExact y → AllWithin y x →
         Holds G.kind (verdict G.kind rows x t) (exact_grade G.kind rows y t) }
-{
-    0
-}
+{}
 
 // The verdict on an exact job is its grade, at both ends.
-pub fn exact_readings_settle<G: Grade>() -> u8
+pub fn exact_readings_settle<G: Grade>()
     ensures { (rows : List Row) (x : Readings) (t : ℕ) → Sound rows → AllExact x →
         verdict G.kind rows x t ≡ span (exact_grade G.kind rows x t) (exact_grade G.kind rows x t) }
-{
-    0
-}
+{}
 
 // While the marked readings stand, so does the verdict, however the others narrow.
-pub fn marks_suffice<G: Grade>() -> u8
+pub fn marks_suffice<G: Grade>()
     ensures { (rows : List Row) (x y : Readings) (t : ℕ) (ms : List Mark) → Sound rows → Marks G.kind rows x t ms → AllWithin y x →
         AtMarks rows ms (λ line u. y line u ≡ x line u) → verdict G.kind rows y t ≡ verdict G.kind rows x t }
-{
-    0
-}
+{}
 
 // Once the marked readings have equal ends, the verdict is settled.
-pub fn marks_settle<G: Grade>() -> u8
+pub fn marks_settle<G: Grade>()
     ensures { (rows : List Row) (x y : Readings) (t : ℕ) (ms : List Mark) → Sound rows → Marks G.kind rows x t ms → AllWithin y x →
         AtMarks rows ms (λ line u. Exact (y line u)) → Settled G.kind (verdict G.kind rows y t) }
-{
-    0
-}
+{}
 
 // Where rows are wanted: the last at the asked tick alone, each other where its parent is wanted, is not settled, and wants it.
 // Not, and, or want their children at their own tick, F and G at every tick of the window.
 // Of an until's children, right is wanted from the window's start to the tick before left's first lowest.
 // Left is wanted from the until's own tick to the last of those ticks at which right is not lowest, and nowhere if there is none.
-pub fn wanting_by_parent<G: Grade>() -> u8
+pub fn wanting_by_parent<G: Grade>()
     ensures root { (rows : List Row) (v : ℕ → ℕ → Span G.kind.Value) (asked u : ℕ) → Sound rows →
         Wanted G.kind rows v asked (root rows) u ↔ (u ≡ asked) }
     ensures child { (rows : List Row) (v : ℕ → ℕ → Span G.kind.Value) (asked k c u : ℕ) → Sound rows → k < length rows → Child (row_at rows k) c →
@@ -106,30 +90,24 @@ pub fn wanting_by_parent<G: Grade>() -> u8
         Wants G.kind v (Until a b l r) t l u ↔ ((t ≤ u) × (u ≤ w)) }
     ensures nowhere { (v : ℕ → ℕ → Span G.kind.Value) (a b l r t s u : ℕ) → ¬ (l ≡ r) → FirstLowest G.kind (v l) b t s → NoneNeeded G.kind (v r) a t s →
         ¬ (Wants G.kind v (Until a b l r) t l u) }
-{
-    0
-}
+{}
 
 // Whether a row is wanted at a tick can be told, and so can whether it is marked there.
-pub fn wants_are_decided<G: Grade>() -> u8
+pub fn wants_are_decided<G: Grade>()
     ensures wanted { (rows : List Row) (v : ℕ → ℕ → Span G.kind.Value) (asked k u : ℕ) → Sound rows →
         Dec (Wanted G.kind rows v asked k u) }
     ensures marked { (rows : List Row) (x : Readings) (asked k u : ℕ) → Sound rows → Dec (Marked G.kind rows x asked k u) }
-{
-    0
-}
+{}
 
 // No row is wanted before the asked tick, nor further behind it than the rule looks ahead.
-pub fn wants_are_bounded<G: Grade>() -> u8
+pub fn wants_are_bounded<G: Grade>()
     ensures { (rows : List Row) (v : ℕ → ℕ → Span G.kind.Value) (asked k u : ℕ) → Sound rows → Wanted G.kind rows v asked k u →
         (k < length rows) × (asked ≤ u) × (u ≤ asked + reach rows) }
-{
-    0
-}
+{}
 
 // Each verdict has its marks, in one list and no other. It lists the ticks at which a test row is wanted and not settled.
 // Of two marks, the one with the smaller row stands first; of one row, the one that ends before the other begins.
-pub fn marks_are_one_list<G: Grade>() -> u8
+pub fn marks_are_one_list<G: Grade>()
     ensures some { (rows : List Row) (x : Readings) (t : ℕ) → Sound rows → (ms : List Mark) × Marks G.kind rows x t ms }
     ensures one { (rows : List Row) (x : Readings) (t : ℕ) (ms ns : List Mark) →
         Marks G.kind rows x t ms → Marks G.kind rows x t ns → ms ≡ ns }
@@ -137,6 +115,4 @@ pub fn marks_are_one_list<G: Grade>() -> u8
         Listed ms k u ↔ (((line : ℕ) × Tests (row_at rows k) line) × Wanted G.kind rows (value (ranges G.kind) rows x) t k u × ¬ (Settled G.kind (value (ranges G.kind) rows x k u))) }
     ensures order { (rows : List Row) (x : Readings) (t : ℕ) (before between behind : List Mark) (m n : Mark) → Marks G.kind rows x t (before ++ (m ∷ (between ++ (n ∷ behind)))) →
         (m.row < n.row) ⊎ ((m.row ≡ n.row) × (m.after < n.first)) }
-{
-    0
-}
+{}

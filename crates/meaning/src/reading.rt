@@ -5,7 +5,7 @@ ghost use Rattle.rules.specs.Rows.{NumberFits};
 pub mod calls;
 
 // A lower and an upper whole number from -500,000 to 500,000; what is read is one of those between them, both counted.
-#[derive(Clone, Copy)]
+#[derive(Clone, Copy, PartialEq, Eq)]
 pub struct Reading {
     lower: i32,
     upper: i32,

@@ -8,7 +8,7 @@ ghost use Rattle.meaning.specs.Marks.{Marks};
 ghost use Rattle.meaning.specs.Cases.{ComesTo, MarginFrom, stretch, unknown, guard, forecast, refined, until, p_then_q, at_least};
 
 // A guard over four ticks on a forecast, then on a finer one; an until whose left side fails at the tick of its right side, and one that holds; and tests at the lowest readings with nothing entered.
-pub fn worked_cases_stand() -> u8
+pub fn worked_cases_stand()
     ensures rules { Sound guard × Sound until × ((limit : ℤ) → NumberFits limit → Sound (at_least limit)) }
     ensures unsure { ComesTo guard forecast 0 Unsure }
     ensures margin { MarginFrom guard forecast 0 (negsuc 39) (pos 100) }
@@ -20,6 +20,4 @@ pub fn worked_cases_stand() -> u8
     ensures timely { (r : Reading) → ComesTo until (p_then_q r 1) 0 Pass }
     ensures lowest { (t : ℕ) → ComesTo (at_least (negsuc 499999)) unknown t Pass }
     ensures above { (t : ℕ) → ComesTo (at_least (negsuc 499998)) unknown t Unsure }
-{
-    0
-}
+{}

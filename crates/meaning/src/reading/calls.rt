@@ -43,12 +43,6 @@ impl Reading {
     pub fn same(self, other: Reading) -> bool
         ensures { Tells result (self ≡ other) }
     {
-        self.same_ends(other)
-    }
-
-    fn same_ends(self, other: Reading) -> bool
-        ensures { Tells result ((self.lower ≡ other.lower) × (self.upper ≡ other.upper)) }
-    {
-        self.lower == other.lower && self.upper == other.upper
+        self == other
     }
 }

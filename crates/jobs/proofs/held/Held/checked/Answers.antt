@@ -29,7 +29,7 @@ returns-then-not-narrows c =
     let b = c.in_ok-barred.ensures in
     fails_5 (held_state h) h.lines (length_lines h.cells.now h.lines h.counts) c.args.line c.args.from c.args.to l u b
     p (reads_as (to_z w32 (of_z w32 l)) (to_z w32 (of_z w32 u)) l u (Some p) (to_z-of_z c.ranges.lower) (to_z-of_z c.ranges.upper) c.in-Some.ensures)
-    c.pieces.result.now (line_at h.cells.now h.lines h.counts c.args.line b.1 ∙ sym c.pieces.ensures.are) c.if-not-narrows.ensures
+    c.line.result.pieces.now (line_at h.cells.now h.lines h.counts c.args.line b.1 ∙ sym c.line.ensures.are) c.if-not-narrows.ensures
 
 pub returns : goal.returns
 returns c =
@@ -41,5 +41,5 @@ returns c =
     let r = reads_as (to_z w32 (of_z w32 l)) (to_z w32 (of_z w32 u)) l u (Some p) (to_z-of_z c.ranges.lower) (to_z-of_z c.ranges.upper) c.in-Some.ensures in (
       r,
       is_ready (held_state h) h.lines (length_lines h.cells.now h.lines h.counts) c.args.line c.args.from c.args.to l u b p r
-          c.pieces.result.now (line_at h.cells.now h.lines h.counts c.args.line b.1 ∙ sym c.pieces.ensures.are) c.if-not-narrows.ensures,
+          c.line.result.pieces.now (line_at h.cells.now h.lines h.counts c.args.line b.1 ∙ sym c.line.ensures.are) c.if-not-narrows.ensures,
     )

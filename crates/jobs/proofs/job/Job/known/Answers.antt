@@ -10,14 +10,14 @@ returns-then-line-self c =
     (inl (λ l. omega (arith, length_lines h.cells.now h.lines h.counts), refl), refl)
 
 pub first_wide-requires : goal.first_wide-requires
-first_wide-requires c = c.pieces.ensures.kept
+first_wide-requires c = c.line.ensures.kept
 
 pub returns : goal.returns
 returns c =
     let h = c.args.self.now.held in
     let k = c.args.line in
-    let e = line_at h.cells.now h.lines h.counts k c.if-line-self.false ∙ sym c.pieces.ensures.are in
+    let e = line_at h.cells.now h.lines h.counts k c.if-line-self.false ∙ sym c.line.ensures.are in
     let f = c.first_wide.ensures in (
       inr (omega (arith, length_lines h.cells.now h.lines h.counts), refl),
-      (c.first_wide.result, (first_unknown_at (state_of c.args.self.now) k c.first_wide.result c.pieces.result.now e (f.here, f.before), refl, refl)),
+      (c.first_wide.result, (first_unknown_at (state_of c.args.self.now) k c.first_wide.result c.line.result.pieces.now e (f.here, f.before), refl, refl)),
     )
