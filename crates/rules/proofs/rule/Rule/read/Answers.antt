@@ -11,4 +11,4 @@ pub of_tokens-requires : goal.of_tokens-requires
 of_tokens-requires c = rw c.tokens.ensures (short c.in_ok-tokens.ensures.split)
 
 pub returns : goal.returns
-returns c = parsed _ _ (omega arith) c.in_ok-tokens.ensures.short c.in_ok-tokens.ensures.split (rw (← c.tokens.ensures, ← c.places.ensures) c.of_tokens.ensures)
+returns c = parsed _ _ (omega arith) c.in_ok-tokens.ensures.short c.in_ok-tokens.ensures.split (rw (c.tokens.ensures, c.places.ensures) at c.of_tokens.ensures)
