@@ -3,11 +3,12 @@ ghost use Rattle.std.specs.Prelude.{◌≡◌, ℕ, ◌+◌, ◌*◌, ◌<◌, �
 ghost use Rattle.rules.specs.Rows.{row_reach_lem as reach_of_row, reach};
 
 use crate::row::Row;
+use arrayvec::ArrayVec;
 
 fn reach_at(done: &[u64], row: usize) -> u64
     ensures { result ≡ slice_index done.now row }
 {
-    if row < done.len() { done[row] } else { 0 }
+    done.get(row).copied().unwrap_or(0)
 }
 
 // The reach of a row, by those of the rows before it.
@@ -37,9 +38,10 @@ pub(crate) fn reach_of(rows: &[Row]) -> u64
     requires some { 0 < length rows.now }
     ensures { result ≡ reach rows.now }
 {
-    let mut found = [0u64; 64];
-    for k in 0..rows.len() {
-        found[k] = row_reach(&found[0..k], rows[k]);
+    let mut found: ArrayVec<u64, 64> = ArrayVec::new();
+    for row in rows {
+        let reach = row_reach(found.as_slice(), *row);
+        found.push(reach);
     }
-    found[rows.len() - 1]
+    found.as_slice()[rows.len() - 1]
 }
