@@ -7,7 +7,8 @@ use Rattle.rules.specs.declared.row.Row.{Row}
 use Rattle.rules.specs.declared.row.Row.TheVariants as row
 use Rattle.rules.specs.declared.row.Side.{Side}
 use Rattle.rules.specs.declared.table.Table.{Table}
-use Rattle.rules.specs.Grammar.{Level, window, limit, part, meet, expr, Modality, modal_token, side_token, Phrase, span, plain, minus, test, opposite, modal, brackets, until, one_part, both, one_meet, either, tokens_of}
+use Rattle.rules.specs.declared.modality.Modality.{Modality}
+use Rattle.rules.specs.Grammar.{Level, window, limit, part, meet, expr, modal_token, side_token, Phrase, span, plain, minus, test, opposite, modal, brackets, until, one_part, both, one_meet, either, tokens_of}
 use Rattle.rules.specs.Tables.{size, limit_of, line_of, modal_row, until_row, rows_of, rises}
 use Rattle.rules.specs.Readers.{Isnt, NoSide, NoNumber, NoLimit, NoStart, NoEnd, Over, Read, Stops, no_left, no_from, no_comma, no_to, no_right, no_limit, no_minus, no_start, no_side, in_test, in_not, in_window, in_modal, in_open, no_end, in_until, in_second, no_close, first_part, next_part, first_meet, next_meet, ReadAs, StopsAt, Took, Missed, ReadLimit, IsAt, Holds, Grows, Pushed, Risen, Built}
 use Rattle.rules.proofs.Places.{here, at_end, at_token}

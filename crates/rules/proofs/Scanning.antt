@@ -7,7 +7,9 @@ use Rattle.tokens.specs.declared.token.Token.{Token}
 use Rattle.tokens.specs.declared.token.Token.TheVariants.{Or, And, Not, Open, Close, Until, Name}
 use Rattle.rules.specs.declared.row.Side.{Side}
 use Rattle.rules.specs.declared.row.Side.TheVariants as side
-use Rattle.rules.specs.Grammar.{Level, window, limit, part, meet, expr, Modality, eventually, always, modal_token, side_token, Phrase, span, plain, minus, test, opposite, modal, brackets, until, one_part, both, one_meet, either, tokens_of}
+use Rattle.rules.specs.declared.modality.Modality.{Modality}
+use Rattle.rules.specs.declared.modality.Modality.TheVariants as modality
+use Rattle.rules.specs.Grammar.{Level, window, limit, part, meet, expr, modal_token, side_token, Phrase, span, plain, minus, test, opposite, modal, brackets, until, one_part, both, one_meet, either, tokens_of}
 use Rattle.rules.specs.Checks.{first_in, any_window, unknown_test, unknown, bad_window, bad_limit, wrong_window, wrong_limit, wrong_test, wrong}
 use Rattle.rules.specs.Scans.{first_from, nameless, unknown_here, wrong_here}
 
@@ -120,8 +122,8 @@ name_test k None c v rest = ap (λ (n : ℕ). Some n) (omega arith)
 name_test k (Some line) c v rest = name_side ((k + 0) + 1) c (tokens_of v ++ rest) ∙ name_limit (((k + 0) + 1) + 1) v rest ∙ ap (λ (n : ℕ). first_from unknown_here n rest) (omega arith)
 
 name_modal : (m : Modality) (r : List Token) → unknown_here (modal_token m ∷ r) ≡ false
-name_modal eventually r = refl
-name_modal always r = refl
+name_modal modality.Eventually r = refl
+name_modal modality.Always r = refl
 
 number_window : (k : ℕ) (u : Phrase window) (rest : List Token) → first_from wrong_here (k + 1) (tokens_of u ++ rest) ≡ option_or (wrong_window k u) (first_from wrong_here ((k + length (tokens_of u)) + 1) rest)
 number_window k (span a b) rest =
@@ -145,8 +147,8 @@ number_test k o c v rest =
     ap (λ (n : ℕ). first_from wrong_here n (side_token c ∷ (tokens_of v ++ rest))) (omega arith) ∙ number_limit k c v rest ∙ ap (option_or (wrong_limit (k + 2) v)) (ap (λ (n : ℕ). first_from wrong_here ((k + n) + 1) rest) (omega arith))
 
 number_modal : (m : Modality) (r : List Token) → wrong_here (modal_token m ∷ r) ≡ false
-number_modal eventually r = refl
-number_modal always r = refl
+number_modal modality.Eventually r = refl
+number_modal modality.Always r = refl
 
 names : Scanner unknown_here 0 any_window unknown_test
 names = record {

@@ -4,7 +4,8 @@ use Rattle.tokens.specs.declared.token.Token.{Token}
 use Rattle.tokens.specs.declared.token.Token.TheVariants.{Or, And, Not, Open, Close, Left, Right, Comma, Minus, Always, Eventually, Until, AtLeast, AtMost, Name, Number}
 use Rattle.rules.specs.declared.row.Row.{Row}
 use Rattle.rules.specs.declared.table.Table.{Table}
-use Rattle.rules.specs.Grammar.{Level, window, limit, part, meet, expr, Modality, modal_token, side_token, Phrase, tokens_of}
+use Rattle.rules.specs.declared.modality.Modality.{Modality}
+use Rattle.rules.specs.Grammar.{Level, window, limit, part, meet, expr, modal_token, side_token, Phrase, tokens_of}
 use Rattle.rules.specs.Tables.{limit_of, rows_of, rises, first_deep_lem}
 use Rattle.rules.specs.declared.row.Side.{Side}
 

@@ -20,10 +20,12 @@ fn row_reach(done: &[u64], row: Row) -> u64
     match row {
         Row::Test { .. } => 0,
         Row::Not { child } => reach_at(done, child),
-        Row::And { left, right } => reach_at(done, left).max(reach_at(done, right)),
-        Row::Or { left, right } => reach_at(done, left).max(reach_at(done, right)),
-        Row::Eventually { to, child, .. } => reach_at(done, child) + to as u64,
-        Row::Always { to, child, .. } => reach_at(done, child) + to as u64,
+        Row::And { left, right } | Row::Or { left, right } => {
+            reach_at(done, left).max(reach_at(done, right))
+        }
+        Row::Eventually { to, child, .. } | Row::Always { to, child, .. } => {
+            reach_at(done, child) + to as u64
+        }
         Row::Until {
             to,
             left,

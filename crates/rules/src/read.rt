@@ -40,19 +40,19 @@ fn check(source: &Source, places: &Places, table: Table) -> Result<Rule, RuleFau
     requires { Derived source.now.tokens.now table }
     ensures { (p : Phrase expr) → Derives source.now.tokens.now p → answer_of result ≡ checked (place_in places.now.places.now places.now.end) p }
 {
-    if let Some(i) = unknown_name(source.tokens) {
+    if let Some(token) = unknown_name(source.tokens) {
         return Err(RuleFault::UnknownName {
-            at: places.byte_of(i),
+            at: places.byte_of(token),
         });
     }
-    if let Some(i) = out_of_bounds(source.tokens) {
+    if let Some(token) = out_of_bounds(source.tokens) {
         return Err(RuleFault::OutOfBounds {
-            at: places.byte_of(i),
+            at: places.byte_of(token),
         });
     }
-    if let Some(i) = table.deep {
+    if let Some(token) = table.deep {
         return Err(RuleFault::TooDeep {
-            at: places.byte_of(i),
+            at: places.byte_of(token),
         });
     }
     if table.count > ROWS {

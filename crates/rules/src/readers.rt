@@ -1,10 +1,11 @@
 // The readers of the grammar: they call each other, with fewer tokens left each time.
 ghost use Rattle.std.specs.Prelude.{◌≡◌, ℕ, ◌+◌, ◌<◌, ◌≤◌, length, drop, MatchBool, MatchResult};
 ghost use Rattle.tokens.specs.declared.token.Token.TheVariants.{Number, Name};
-ghost use Rattle.rules.specs.Grammar.{part as a_part, meet as a_meet, expr as an_expr, window as a_window, limit as a_limit, span as a_span, side_token, Fails};
+ghost use Rattle.rules.specs.Grammar.{part as a_part, meet as a_meet, expr as an_expr, window as a_window, limit as a_limit, span as a_span, modal_token, side_token, Fails};
 ghost use Rattle.rules.specs.Readers.{ReadAs, ReadLimit, StopsAt, Took, Missed, Isnt, NoSide, NoNumber, Built, Ready, IsAt, ShortNumbers};
 ghost use Rattle.rules.specs.Texts.{Derived};
 
+use crate::modality::Modality;
 use crate::row::{Row, Side};
 use crate::table::Table;
 use tokens::token::Token;
@@ -105,10 +106,10 @@ impl Source<'_> {
         requires { at ≤ length self.now.tokens.now }
         ensures { MatchResult result (λ w. ReadAs (a_span w.from w.to) self.now.tokens.now at w.next) (λ f. StopsAt a_window self.now.tokens.now at f.at) }
     {
-        let a = self.exact(at, Token::Left)?;
-        let from = self.number(a)?;
-        let c = self.exact(from.next, Token::Comma)?;
-        let to = self.number(c)?;
+        let left = self.exact(at, Token::Left)?;
+        let from = self.number(left)?;
+        let comma = self.exact(from.next, Token::Comma)?;
+        let to = self.number(comma)?;
         let next = self.exact(to.next, Token::Right)?;
         Ok(Span {
             from: from.value,
@@ -209,10 +210,7 @@ impl Source<'_> {
     {
         let token = self.token(at)?;
         match token {
-            Token::Name(line) => {
-                let tested = self.test(at, line, table)?;
-                Ok(tested)
-            }
+            Token::Name(line) => self.test(at, line, table),
             Token::Not => {
                 table.rise(at, depth + 1);
                 let child = self.part(at + 1, depth + 1, table)?;
@@ -222,34 +220,8 @@ impl Source<'_> {
                     root,
                 })
             }
-            Token::Eventually => {
-                table.rise(at, depth + 1);
-                let w = self.window(at + 1)?;
-                let child = self.part(w.next, depth + 1, table)?;
-                let root = table.push(Row::Eventually {
-                    from: w.from,
-                    to: w.to,
-                    child: child.root,
-                });
-                Ok(Done {
-                    next: child.next,
-                    root,
-                })
-            }
-            Token::Always => {
-                table.rise(at, depth + 1);
-                let w = self.window(at + 1)?;
-                let child = self.part(w.next, depth + 1, table)?;
-                let root = table.push(Row::Always {
-                    from: w.from,
-                    to: w.to,
-                    child: child.root,
-                });
-                Ok(Done {
-                    next: child.next,
-                    root,
-                })
-            }
+            Token::Eventually => self.modal(Modality::Eventually, at, depth, table),
+            Token::Always => self.modal(Modality::Always, at, depth, table),
             Token::Open => {
                 table.rise(at, depth + 1);
                 let first = self.expression(at + 1, depth + 1, table)?;
@@ -260,12 +232,12 @@ impl Source<'_> {
                         root: first.root,
                     }),
                     Token::Until => {
-                        let w = self.window(first.next + 1)?;
-                        let second = self.expression(w.next, depth + 1, table)?;
+                        let span = self.window(first.next + 1)?;
+                        let second = self.expression(span.next, depth + 1, table)?;
                         let next = self.exact(second.next, Token::Close)?;
                         let root = table.push(Row::Until {
-                            from: w.from,
-                            to: w.to,
+                            from: span.from,
+                            to: span.to,
                             left: first.root,
                             right: second.root,
                         });
@@ -276,6 +248,29 @@ impl Source<'_> {
             }
             _ => Err(Stop { at }),
         }
+    }
+
+    // A window and a part behind F or G, which is at `at`.
+    #[cycle(expression_meet_part)]
+    fn modal(
+        &self,
+        modality: Modality,
+        at: usize,
+        depth: usize,
+        table: &mut Table,
+    ) -> Result<Done, Stop>
+        requires ready { Ready self.now.tokens.now at depth table.old }
+        requires token { IsAt (modal_token modality) self.now.tokens.now at }
+        ensures { MatchResult result (λ d. Built a_part self.now.tokens.now at depth table.old table.new d.next d.root) (λ f. StopsAt a_part self.now.tokens.now at f.at) }
+    {
+        table.rise(at, depth + 1);
+        let span = self.window(at + 1)?;
+        let child = self.part(span.next, depth + 1, table)?;
+        let root = table.push(modality.row(span.from, span.to, child.root));
+        Ok(Done {
+            next: child.next,
+            root,
+        })
     }
 
     // The rows and the depth of the tokens, if they are an expression.

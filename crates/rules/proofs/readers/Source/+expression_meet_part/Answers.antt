@@ -1,5 +1,5 @@
 use Rattle.std.proofs.Common.{refl, ◌∙◌}
-use Rattle.rules.specs.Grammar.{eventually, always, span}
+use Rattle.rules.specs.Grammar.{span}
 use Rattle.rules.specs.Readers.{NoEnd}
 use Rattle.rules.proofs.Places.{at_end, at_token}
 use Rattle.rules.proofs.Growth.{begun_e, stop_e, end_e, over_e, grow_e, fail_e, begun_m, stop_m, end_m, over_m, grow_m, fail_m, p_end, p_rest, p_not_stop, p_not, p_window, p_modal_stop, p_modal, p_open, p_no_end, p_brackets, p_until_window, p_second_stop, p_no_close, p_until}
@@ -60,24 +60,6 @@ part-returns-in_err-child-in-Not t c = stopped _ _ _ _ c.from_residual-in_err-ch
 pub part-returns-in_ok-child-in-Not : goal.part-returns-in_ok-child-in-Not
 part-returns-in_ok-child-in-Not t c = p_not _ _ _ _ _ _ c.in_ok-token.ensures.there (c.in_ok-token.ensures.is ∙ c.in-Not.is) c.rise.ensures c.in_ok-child-in-Not.ensures c.push-root.ensures
 
-pub part-returns-in_err-w-in-Eventually : goal.part-returns-in_err-w-in-Eventually
-part-returns-in_err-w-in-Eventually t c = stopped _ _ _ _ c.from_residual-in_err-w-in-Eventually.ensures.1 (p_window eventually _ _ _ c.in_ok-token.ensures.there (c.in_ok-token.ensures.is ∙ c.in-Eventually.is) c.in_err-w-in-Eventually.ensures)
-
-pub part-returns-in_err-child-in-Eventually : goal.part-returns-in_err-child-in-Eventually
-part-returns-in_err-child-in-Eventually t c = stopped _ _ _ _ c.from_residual-in_err-child-in-Eventually.ensures.1 (p_modal_stop eventually _ _ _ _ _ c.in_ok-token.ensures.there (c.in_ok-token.ensures.is ∙ c.in-Eventually.is) c.in_ok-w-in-Eventually.ensures c.in_err-child-in-Eventually.ensures)
-
-pub part-returns-in_ok-child-in-Eventually : goal.part-returns-in_ok-child-in-Eventually
-part-returns-in_ok-child-in-Eventually t c = p_modal eventually (span _ _) _ _ _ _ _ _ _ c.in_ok-token.ensures.there (c.in_ok-token.ensures.is ∙ c.in-Eventually.is) c.rise-in-Eventually.ensures c.in_ok-w-in-Eventually.ensures c.in_ok-child-in-Eventually.ensures c.push-root-in-Eventually.ensures
-
-pub part-returns-in_err-w-in-Always : goal.part-returns-in_err-w-in-Always
-part-returns-in_err-w-in-Always t c = stopped _ _ _ _ c.from_residual-in_err-w-in-Always.ensures.1 (p_window always _ _ _ c.in_ok-token.ensures.there (c.in_ok-token.ensures.is ∙ c.in-Always.is) c.in_err-w-in-Always.ensures)
-
-pub part-returns-in_err-child-in-Always : goal.part-returns-in_err-child-in-Always
-part-returns-in_err-child-in-Always t c = stopped _ _ _ _ c.from_residual-in_err-child-in-Always.ensures.1 (p_modal_stop always _ _ _ _ _ c.in_ok-token.ensures.there (c.in_ok-token.ensures.is ∙ c.in-Always.is) c.in_ok-w-in-Always.ensures c.in_err-child-in-Always.ensures)
-
-pub part-returns-in_ok-child-in-Always : goal.part-returns-in_ok-child-in-Always
-part-returns-in_ok-child-in-Always t c = p_modal always (span _ _) _ _ _ _ _ _ _ c.in_ok-token.ensures.there (c.in_ok-token.ensures.is ∙ c.in-Always.is) c.rise-in-Always.ensures c.in_ok-w-in-Always.ensures c.in_ok-child-in-Always.ensures c.push-root-in-Always.ensures
-
 pub part-returns-in_err-first-in-Open : goal.part-returns-in_err-first-in-Open
 part-returns-in_err-first-in-Open t c = stopped _ _ _ _ c.from_residual-in_err-first-in-Open.ensures.1 (p_open _ _ _ c.in_ok-token.ensures.there (c.in_ok-token.ensures.is ∙ c.in-Open.is) c.in_err-first-in-Open.ensures)
 
@@ -90,14 +72,29 @@ part-returns-in_default-behind t c = p_no_end c.in_ok-first-in-Open.ensures.phra
 pub part-returns-in-Close : goal.part-returns-in-Close
 part-returns-in-Close t c = p_brackets _ _ _ _ _ c.in_ok-token.ensures.there (c.in_ok-token.ensures.is ∙ c.in-Open.is) c.rise-in-Open.ensures c.in_ok-first-in-Open.ensures c.in_ok-behind-in-Open.ensures.there (c.in_ok-behind-in-Open.ensures.is ∙ c.in-Close.is)
 
-pub part-returns-in_err-w-in-Until : goal.part-returns-in_err-w-in-Until
-part-returns-in_err-w-in-Until t c = stopped _ _ _ _ c.from_residual-in_err-w-in-Until.ensures.1 (p_until_window c.in_ok-first-in-Open.ensures.phrase _ _ _ _ c.in_ok-token.ensures.there (c.in_ok-token.ensures.is ∙ c.in-Open.is) c.in_ok-first-in-Open.ensures.read c.in_ok-behind-in-Open.ensures.there (c.in_ok-behind-in-Open.ensures.is ∙ c.in-Until.is) c.in_err-w-in-Until.ensures)
+pub part-returns-in_err-span-in-Until : goal.part-returns-in_err-span-in-Until
+part-returns-in_err-span-in-Until t c = stopped _ _ _ _ c.from_residual-in_err-span-in-Until.ensures.1 (p_until_window c.in_ok-first-in-Open.ensures.phrase _ _ _ _ c.in_ok-token.ensures.there (c.in_ok-token.ensures.is ∙ c.in-Open.is) c.in_ok-first-in-Open.ensures.read c.in_ok-behind-in-Open.ensures.there (c.in_ok-behind-in-Open.ensures.is ∙ c.in-Until.is) c.in_err-span-in-Until.ensures)
 
 pub part-returns-in_err-second-in-Until : goal.part-returns-in_err-second-in-Until
-part-returns-in_err-second-in-Until t c = stopped _ _ _ _ c.from_residual-in_err-second-in-Until.ensures.1 (p_second_stop c.in_ok-first-in-Open.ensures.phrase _ _ _ _ _ _ c.in_ok-token.ensures.there (c.in_ok-token.ensures.is ∙ c.in-Open.is) c.in_ok-first-in-Open.ensures.read c.in_ok-behind-in-Open.ensures.there (c.in_ok-behind-in-Open.ensures.is ∙ c.in-Until.is) c.in_ok-w-in-Until.ensures c.in_err-second-in-Until.ensures)
+part-returns-in_err-second-in-Until t c = stopped _ _ _ _ c.from_residual-in_err-second-in-Until.ensures.1 (p_second_stop c.in_ok-first-in-Open.ensures.phrase _ _ _ _ _ _ c.in_ok-token.ensures.there (c.in_ok-token.ensures.is ∙ c.in-Open.is) c.in_ok-first-in-Open.ensures.read c.in_ok-behind-in-Open.ensures.there (c.in_ok-behind-in-Open.ensures.is ∙ c.in-Until.is) c.in_ok-span-in-Until.ensures c.in_err-second-in-Until.ensures)
 
 pub part-returns-in_err-next-in-Until : goal.part-returns-in_err-next-in-Until
-part-returns-in_err-next-in-Until t c = stopped _ _ _ _ c.from_residual-in_err-next-in-Until.ensures.1 (p_no_close c.in_ok-first-in-Open.ensures.phrase c.in_ok-second-in-Until.ensures.phrase _ _ _ _ _ _ _ c.in_ok-token.ensures.there (c.in_ok-token.ensures.is ∙ c.in-Open.is) c.in_ok-first-in-Open.ensures.read c.in_ok-behind-in-Open.ensures.there (c.in_ok-behind-in-Open.ensures.is ∙ c.in-Until.is) c.in_ok-w-in-Until.ensures c.in_ok-second-in-Until.ensures.read c.in_err-next-in-Until.ensures)
+part-returns-in_err-next-in-Until t c = stopped _ _ _ _ c.from_residual-in_err-next-in-Until.ensures.1 (p_no_close c.in_ok-first-in-Open.ensures.phrase c.in_ok-second-in-Until.ensures.phrase _ _ _ _ _ _ _ c.in_ok-token.ensures.there (c.in_ok-token.ensures.is ∙ c.in-Open.is) c.in_ok-first-in-Open.ensures.read c.in_ok-behind-in-Open.ensures.there (c.in_ok-behind-in-Open.ensures.is ∙ c.in-Until.is) c.in_ok-span-in-Until.ensures c.in_ok-second-in-Until.ensures.read c.in_err-next-in-Until.ensures)
 
 pub part-returns-in_ok-next-in-Until : goal.part-returns-in_ok-next-in-Until
-part-returns-in_ok-next-in-Until t c = p_until (span _ _) _ _ _ _ _ _ _ _ _ _ c.in_ok-token.ensures.there (c.in_ok-token.ensures.is ∙ c.in-Open.is) c.rise-in-Open.ensures c.in_ok-first-in-Open.ensures c.in_ok-behind-in-Open.ensures.there (c.in_ok-behind-in-Open.ensures.is ∙ c.in-Until.is) c.in_ok-w-in-Until.ensures c.in_ok-second-in-Until.ensures c.in_ok-next-in-Until.ensures c.push-root-in-Until.ensures
+part-returns-in_ok-next-in-Until t c = p_until (span _ _) _ _ _ _ _ _ _ _ _ _ c.in_ok-token.ensures.there (c.in_ok-token.ensures.is ∙ c.in-Open.is) c.rise-in-Open.ensures c.in_ok-first-in-Open.ensures c.in_ok-behind-in-Open.ensures.there (c.in_ok-behind-in-Open.ensures.is ∙ c.in-Until.is) c.in_ok-span-in-Until.ensures c.in_ok-second-in-Until.ensures c.in_ok-next-in-Until.ensures c.push-root-in-Until.ensures
+
+pub modal-returns-in_err-span : goal.modal-returns-in_err-span
+modal-returns-in_err-span t c =
+    let h = c.requires.token in
+    stopped _ _ _ _ c.from_residual.ensures.1 (p_window c.args.modality _ _ _ h.there h.is c.in_err-span.ensures)
+
+pub modal-returns-in_err-child : goal.modal-returns-in_err-child
+modal-returns-in_err-child t c =
+    let h = c.requires.token in
+    stopped _ _ _ _ c.from_residual-in_err-child.ensures.1 (p_modal_stop c.args.modality _ _ _ _ _ h.there h.is c.in_ok-span.ensures c.in_err-child.ensures)
+
+pub modal-returns : goal.modal-returns
+modal-returns t c =
+    let h = c.requires.token in
+    p_modal c.args.modality (span _ _) _ _ _ _ _ _ _ h.there h.is c.rise.ensures c.in_ok-span.ensures c.in_ok-child.ensures (rw c.row.ensures at c.push-root.ensures)

@@ -12,6 +12,9 @@ decreases-meet l = 3 * (length l.self.now.tokens.now - l.at) + 1
 abbrev pub decreases-part : goal.decreases-part
 decreases-part l = 3 * (length l.self.now.tokens.now - l.at)
 
+abbrev pub decreases-modal : goal.decreases-modal
+decreases-modal l = 3 * (length l.self.now.tokens.now - l.at) - 1
+
 abbrev pub invariant-expression-loop-table : goal.invariant-expression-loop-table
 invariant-expression-loop-table l = Grown meet expr l.self.tokens.now l.at l.depth l.initial.left.next l.initial.table l.left.next l.left.root l.table
 
