@@ -1,7 +1,7 @@
 -- The cells keep what they should, when one more byte comes.
 use Rattle.std.proofs.Common.{◌≡◌, ℕ, zero, suc, ◌+◌, ◌<◌, ◌≤◌, false, eqb, List, [], ◌∷◌, ◌++◌, map, length, get_or, take, set, sym, refl, ap, ◌∙◌, subst, ⊎_elim, arith, Bor}
 use Rattle.tokens.specs.Answers.{texts}
-use Rattle.std.proofs.lemmas.List.{get_or-set_same, get_or-set_other, length_push, length-set, length-map, map-set, get_or-map, map_push, map_more, take_more_set, take_all}
+use Rattle.std.proofs.lemmas.List.{get_or-set_same, get_or-set_other, length_push, length-set, length-map, map-set, get_or-map}
 use Rattle.std.proofs.lemmas.Bool.{cases_eq, ne_eqb}
 use Rattle.rule_lines.specs.Lines.{later_parts, parts}
 use Rattle.rule_lines.specs.Kept.{held, Cut, NamesKept}
@@ -11,15 +11,15 @@ use Rattle.rule_lines.proofs.Fronts.{onward}
 use Rattle.rule_lines.proofs.Splitting.{space, other}
 
 -- an empty part at the end is as good as none
-getD_nil_more : (ps : List (List ℕ)) (k : ℕ) → get_or (ps ++ ([] ∷ [])) k [] ≡ get_or ps k []
-getD_nil_more [] zero = refl
-getD_nil_more [] (suc k) = refl
-getD_nil_more (p ∷ ps) zero = refl
-getD_nil_more (p ∷ ps) (suc k) = getD_nil_more ps k
+get_or_nil_more : (ps : List (List ℕ)) (k : ℕ) → get_or (ps ++ ([] ∷ [])) k [] ≡ get_or ps k []
+get_or_nil_more [] zero = refl
+get_or_nil_more [] (suc k) = refl
+get_or_nil_more (p ∷ ps) zero = refl
+get_or_nil_more (p ∷ ps) (suc k) = get_or_nil_more ps k
 
 pub cut_space : (line : List ℕ) (cells : List (List ℕ)) → Cut line cells → Cut (line ++ (32 ∷ [])) cells
 cut_space line cells h k few =
-    h k few ∙ sym (ap (take 9) (ap (λ (ps : List (List ℕ)). get_or ps k []) (space line) ∙ getD_nil_more (parts line) k))
+    h k few ∙ sym (ap (take 9) (ap (λ (ps : List (List ℕ)). get_or ps k []) (space line) ∙ get_or_nil_more (parts line) k))
 
 module _ (b : ℕ) (plain : eqb b 32 ≡ false) (line : List ℕ) (n : ℕ) (last : length (later_parts line) ≡ n) where
   -- the part n grows
@@ -34,15 +34,15 @@ module _ (b : ℕ) (plain : eqb b 32 ≡ false) (line : List ℕ) (n : ℕ) (las
       ap (λ (ps : List (List ℕ)). get_or ps k []) (other b plain line) ∙ get_or-set_other (parts line) (length (later_parts line)) k _ [] (λ e. ne (e ∙ last))
 
   pub cut_push : (cells : List (List ℕ)) → length cells ≡ 16 → n < 16 → Cut line cells → Cut (line ++ (b ∷ [])) (set cells n (take 9 (get_or cells n [] ++ (b ∷ []))))
-  cut_push cells all few h k in-16 =
+  cut_push cells all few h k below_16 =
       ⊎_elim
       (λ e. subst (λ (m : ℕ). get_or (set cells n (take 9 (get_or cells n [] ++ (b ∷ [])))) m [] ≡ take 9 (get_or (parts (line ++ (b ∷ []))) m [])) (sym e)
       (get_or-set_same cells n _ [] (omega arith) ∙ ap (λ (v : List ℕ). take 9 (v ++ (b ∷ []))) (h n few) ∙ onward 9 b (get_or (parts line) n []) ∙ ap (take 9) (sym part_here)))
-      (λ ne. get_or-set_other cells n k _ [] ne ∙ h k in-16 ∙ ap (take 9) (sym (part_elsewhere k ne)))
+      (λ ne. get_or-set_other cells n k _ [] ne ∙ h k below_16 ∙ ap (take 9) (sym (part_elsewhere k ne)))
       (cases_eq k n)
 
   pub cut_full : (cells : List (List ℕ)) → 16 ≤ n → Cut line cells → Cut (line ++ (b ∷ [])) cells
-  cut_full cells many h k in-16 = h k in-16 ∙ ap (take 9) (sym (part_elsewhere k (λ e. omega arith)))
+  cut_full cells many h k below_16 = h k below_16 ∙ ap (take 9) (sym (part_elsewhere k (λ e. omega arith)))
 
   pub last_same : length (later_parts (line ++ (b ∷ []))) ≡ n
   last_same = omega (arith, last, ap length (other b plain line), length-set (parts line) (length (later_parts line)) (get_or (parts line) (length (later_parts line)) [] ++ (b ∷ [])))
@@ -75,10 +75,8 @@ module _ (b : ℕ) (line : List ℕ) (names : Names) where
       }
 
 -- the parts are listed one by one
-module _ (fronts : List (Front 9)) (refs : List (Bor (List ℕ))) where
-  pub listed_more : (r : Bor (List ℕ)) (k : ℕ) (d : Front 9) → k < length fronts → k < length refs → texts (take k refs) ≡ map held (take k fronts) → r.now ≡ held (get_or fronts k d) → texts (take (k + 1) (set refs k r)) ≡ map held (take (k + 1) fronts)
-  listed_more r k d some room h e =
-      ap texts (take_more_set refs k r room) ∙ map_push (λ x. x.now) (take k refs) r ∙ (λ i. h i ++ (e i ∷ [])) ∙ sym (map_more held fronts k d some)
-
-  pub listed_all : (k : ℕ) → length fronts ≤ k → length refs ≤ k → texts (take k refs) ≡ map held (take k fronts) → texts refs ≡ map held fronts
-  listed_all k all room h = ap texts (sym (take_all k refs room)) ∙ h ∙ ap (map held) (take_all k fronts all)
+pub listed : (refs : List (Bor (Front 9))) (lists : List (Bor (List ℕ))) → length lists ≡ length refs → ((i : ℕ) (d : Bor (Front 9)) (e : Bor (List ℕ)) → i < length refs → (get_or lists i e).now ≡ held (get_or refs i d).now) → texts lists ≡ map held (map (λ r. r.now) refs)
+listed [] [] long each = refl
+listed [] (l ∷ lists) long each = absurd (omega arith)
+listed (r ∷ refs) [] long each = absurd (omega arith)
+listed (r ∷ refs) (l ∷ lists) long each = λ i. each 0 r l (omega arith) i ∷ listed refs lists (omega arith) (λ k d e h. each (suc k) d e (omega arith)) i

@@ -1,9 +1,9 @@
 -- Rows are written line by line.
-use Rattle.std.proofs.Common.{◌≡◌, ℕ, ◌+◌, ◌<◌, ◌≤◌, List, [], ◌∷◌, ◌++◌, length, get_or, take, sym, ap, ◌∙◌, append_assoc, append-nil, arith}
-use Rattle.std.specs.Fmt.{IsPlainFormatter, HasWritten}
+use Rattle.std.proofs.Common.{◌≡◌, ℕ, ◌+◌, ◌<◌, List, [], ◌∷◌, ◌++◌, length, get_or, take, sym, ap, ◌∙◌, append_assoc, append-nil, arith}
+use Rattle.std.specs.Fmt.{HasWritten}
 use Rattle.std.specs.declared.fmt.Formatter.{Formatter}
-use Rattle.std.proofs.Output.{writes_in_calls_nil, has_written_append, has_written_of_eq}
-use Rattle.std.proofs.lemmas.List.{take_more, take_all, length-take-le}
+use Rattle.std.proofs.Output.{has_written_append, has_written_of_eq}
+use Rattle.std.proofs.lemmas.List.{take_more, length-take-le}
 use Rattle.rules.specs.declared.row.Row.{Row}
 use Rattle.rules.specs.Rows.{reach}
 use Rattle.rule_lines.specs.Listing.{row_line, row_lines, last_line, table_text}
@@ -19,14 +19,8 @@ row_lines_more rows k d h =
     sym (ap (row_lines 0) (take_more rows k d h) ∙ row_lines_push 0 (take k rows) (get_or rows k d) ∙ ap (λ (n : ℕ). row_lines 0 (take k rows) ++ row_line n (get_or rows k d)) (omega (arith, length-take-le k rows (omega arith))))
 
 module _ {W : Type 0} (took : W → List ℕ → W → Type 0) (f : Formatter W) where
-  pub none : IsPlainFormatter f → HasWritten took f [] f
-  none plain = record { wrote = writes_in_calls_nil took _; plain = plain }
-
   pub more : (g h : Formatter W) (rows : List Row) (k : ℕ) (d : Row) → k < length rows → HasWritten took f (row_lines 0 (take k rows)) g → HasWritten took g (row_line k (get_or rows k d)) h → HasWritten took f (row_lines 0 (take (k + 1) rows)) h
   more g h rows k d some x y = has_written_of_eq took f _ _ h (row_lines_more rows k d some) (has_written_append took f _ g _ h x y)
-
-  pub all : (g : Formatter W) (rows : List Row) (k : ℕ) → length rows ≤ k → HasWritten took f (row_lines 0 (take k rows)) g → HasWritten took f (row_lines 0 rows) g
-  all g rows k past x = has_written_of_eq took f _ _ g (ap (row_lines 0) (take_all k rows past)) x
 
   -- and behind the rows their number and reach
   pub table : (g h : Formatter W) (rows read : List Row) (ahead : ℕ) → rows ≡ read → ahead ≡ reach read → HasWritten took f (row_lines 0 rows) g → HasWritten took g (last_line (length rows) ahead) h → HasWritten took f (table_text read) h

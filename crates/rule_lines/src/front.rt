@@ -1,17 +1,18 @@
 // The beginning of a run of bytes.
-ghost use Rattle.std.specs.Prelude.{◌≡◌, [], ◌∷◌, ◌++◌, take};
-ghost use Rattle.rule_lines.specs.Kept.{held};
+ghost use Rattle.std.specs.Prelude.{◌≡◌, ◌≤◌, [], ◌∷◌, ◌++◌, take};
 
 // The first `N` bytes of what it is given, one by one.
+// An array and a size, since an input can be copied, and an array vector cannot.
 #[derive(Clone, Copy)]
 pub(crate) struct Front<const N: usize> {
     bytes: [u8; N],
     size: usize,
+    ghost fits: { size ≤ N },
 }
 
 impl<const N: usize> Front<N> {
     pub(crate) fn new() -> Front<N>
-        ensures { held result ≡ [] }
+        ensures { take result.size result.bytes ≡ [] }
     {
         Front {
             bytes: [0; N],
@@ -20,20 +21,17 @@ impl<const N: usize> Front<N> {
     }
 
     pub(crate) fn push(&mut self, byte: u8)
-        ensures { held self.new ≡ take N (held self.old ++ byte ∷ []) }
+        ensures { take self.new.size self.new.bytes ≡ take N (take self.old.size self.old.bytes ++ byte ∷ []) }
     {
-        // Of the slice, since the proof knows its length even where nothing is written.
-        let room = self.bytes[..].len();
-        if self.size < room {
+        if self.size < N {
             self.bytes[self.size] = byte;
             self.size += 1;
         }
     }
 
     pub(crate) fn bytes(&self) -> &[u8]
-        ensures { result.now ≡ held self.now }
+        ensures { result.now ≡ take self.now.size self.now.bytes }
     {
-        let all = &self.bytes[..];
-        &all[0..self.size.min(N)]
+        &self.bytes[..self.size]
     }
 }

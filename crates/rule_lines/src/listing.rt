@@ -21,8 +21,8 @@ fn write_row<W: fmt::Write>(number: usize, row: Row, f: &mut fmt::Formatter<W>) 
 fn write_rows<W: fmt::Write>(rows: &[Row], f: &mut fmt::Formatter<W>) -> fmt::Result
     ensures { WritesOnOk W.write_str_gives f.old result (row_lines 0 rows.now) f.new }
 {
-    for k in 0..rows.len() {
-        write_row(k, rows[k], f)?;
+    for (number, row) in rows.iter().enumerate() {
+        write_row(number, *row, f)?;
     }
     Ok(())
 }

@@ -46,11 +46,6 @@ impl Names {
     pub(crate) fn list<'a>(&'a self) -> [&'a [u8]; NAMES]
         ensures { texts result ≡ map held self.now.parts }
     {
-        let parts = &self.parts[..];
-        let mut list: [&'a [u8]; NAMES] = [b""; NAMES];
-        for k in 0..parts.len() {
-            list[k] = parts[k].bytes();
-        }
-        list
+        self.parts.each_ref().map(|part| part.bytes())
     }
 }

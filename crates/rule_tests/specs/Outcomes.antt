@@ -1,6 +1,5 @@
 -- What is told of an answer, and how cases are counted.
 use Rattle.std.specs.Prelude.{◌≡◌, ℕ, ◌+◌, ◌-◌, ◌^◌, min, Bool, cond, length, Ok, Err}
-use Rattle.rules.specs.Faults.{fault_number, fault_place}
 use Rattle.rules.specs.Rows.{reach}
 use Rattle.rules.specs.Texts.{Answer}
 use Rattle.rule_tests.specs.declared.outcome.Outcome.{Outcome}
@@ -9,7 +8,7 @@ use Rattle.rule_tests.specs.declared.tally.Tally.{Tally}
 
 abbrev pub outcome_of_lem : Answer → Outcome
 outcome_of_lem (Ok rows) = Read (length rows) (reach rows)
-outcome_of_lem (Err f) = Refused (fault_number f) (fault_place f)
+outcome_of_lem (Err f) = Refused f
 
 -- one more, as far as 64 bits go
 abbrev pub one_more : ℕ → ℕ

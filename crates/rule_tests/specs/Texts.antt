@@ -1,11 +1,8 @@
 -- The text of a case, written out.
-use Rattle.std.specs.Prelude.{ℕ, zero, suc, List, [], ◌++◌}
+use Rattle.std.specs.Prelude.{ℕ, List, [], ◌++◌}
+use Rattle.std.specs.List.{repeat}
 use Rattle.rule_tests.specs.declared.texts.Text.{Text}
 use Rattle.rule_tests.specs.declared.texts.Text.TheVariants.{Plain, Led, Trailed, Nested}
-
-abbrev pub repeat : ℕ → List ℕ → List ℕ
-repeat zero piece = []
-repeat (suc n) piece = piece ++ repeat n piece
 
 -- the front n times, the middle, and the back m times
 abbrev pub put_together_lem : ℕ → List ℕ → List ℕ → ℕ → List ℕ → List ℕ

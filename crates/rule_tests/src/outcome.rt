@@ -1,4 +1,4 @@
-// What a rule text is answered, in short.
+// What a rule text is answered, in short: how many rows and how far they look, or the refusal.
 ghost use Rattle.std.specs.Prelude.{◌≡◌};
 ghost use Rattle.rules.specs.Texts.{answer_of};
 ghost use Rattle.rule_tests.specs.Outcomes.{outcome_of_lem};
@@ -9,10 +9,8 @@ use std::fmt;
 
 #[derive(Clone, Copy, PartialEq, Eq)]
 pub(crate) enum Outcome {
-    // So many rows, and the reach.
-    Read(usize, u32),
-    // The refusal's number and byte.
-    Refused(u8, usize),
+    Read { rows: usize, reach: u32 },
+    Refused(RuleFault),
 }
 
 impl Outcome {
@@ -20,8 +18,11 @@ impl Outcome {
         ensures { result ≡ outcome_of_lem (answer_of answer.now) }
     {
         match answer {
-            Ok(rule) => Outcome::Read(rule.rows().len(), rule.reach()),
-            Err(fault) => Outcome::Refused(fault.number(), fault.place()),
+            Ok(rule) => Outcome::Read {
+                rows: rule.rows().len(),
+                reach: rule.reach(),
+            },
+            Err(fault) => Outcome::Refused(*fault),
         }
     }
 }
@@ -29,8 +30,12 @@ impl Outcome {
 impl fmt::Display for Outcome {
     fn fmt<W: fmt::Write>(&self, f: &mut fmt::Formatter<W>) -> fmt::Result {
         match self {
-            Outcome::Read(rows, reach) => write!(f, "{rows} rows, reach {reach}"),
-            Outcome::Refused(number, byte) => write!(f, "refused {number} byte {byte}"),
+            Outcome::Read { rows, reach } => write!(f, "{rows} rows, reach {reach}"),
+            Outcome::Refused(fault) => {
+                let number = fault.number();
+                let byte = fault.place();
+                write!(f, "refused {number} byte {byte}")
+            }
         }
     }
 }

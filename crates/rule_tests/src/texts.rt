@@ -1,6 +1,6 @@
 // Rule texts, and those that are rules, at the edges of their limits.
-ghost use Rattle.std.specs.Prelude.{◌≡◌, ◌++◌, IfOk, string_bytes, OnOk};
-ghost use Rattle.rule_tests.specs.Texts.{repeat, put_together_lem, text_of};
+ghost use Rattle.std.specs.Prelude.{◌≡◌, IfOk, string_bytes};
+ghost use Rattle.rule_tests.specs.Texts.{put_together_lem, text_of};
 
 use crate::outcome::Outcome;
 use crate::outcome::Outcome::Read;
@@ -22,16 +22,7 @@ pub(crate) enum Text {
 
 use Text::{Led, Nested, Plain, Trailed};
 
-// Puts the piece behind the text so many times.
-fn repeat_onto(text: &mut String, times: usize, piece: &str) -> Result<(), AllocError>
-    ensures { OnOk result (string_bytes text.new ≡ string_bytes text.old ++ repeat times piece.now) }
-{
-    for _k in 0..times {
-        text.push_str(piece)?;
-    }
-    Ok(())
-}
-
+// A front so many times, a middle, and a back so many times.
 fn put_together(
     heap: Global,
     fronts: usize,
@@ -42,10 +33,10 @@ fn put_together(
 ) -> Result<String, AllocError>
     ensures { IfOk result (λ s. string_bytes s ≡ put_together_lem fronts front.now middle.now backs back.now) }
 {
-    let mut text = String::new(heap);
-    repeat_onto(&mut text, fronts, front)?;
+    let mut text = front.repeat(heap, fronts)?;
     text.push_str(middle)?;
-    repeat_onto(&mut text, backs, back)?;
+    let backs = back.repeat(heap, backs)?;
+    text.push_str(&backs)?;
     Ok(text)
 }
 
@@ -122,38 +113,77 @@ impl Case {
 
 pub(crate) static RULES: [Case; 26] = [
     // Words at their longest, and the last name that counts.
-    Case(Plain("a>=0"), Read(1, 0)),
-    Case(Plain("a>=-0"), Read(1, 0)),
-    Case(Plain("abcdefgh<=1"), Read(1, 0)),
-    Case(Plain("p>=1"), Read(1, 0)),
+    Case(Plain("a>=0"), Read { rows: 1, reach: 0 }),
+    Case(Plain("a>=-0"), Read { rows: 1, reach: 0 }),
+    Case(Plain("abcdefgh<=1"), Read { rows: 1, reach: 0 }),
+    Case(Plain("p>=1"), Read { rows: 1, reach: 0 }),
     // Limits and windows.
-    Case(Plain("a>=500000"), Read(1, 0)),
-    Case(Plain("a<=-500000"), Read(1, 0)),
-    Case(Plain("F[3,3]a>=1"), Read(2, 3)),
-    Case(Plain("F[0,500000000]a>=1"), Read(2, 500_000_000)),
-    Case(Plain("G[500000000,500000000]a>=1"), Read(2, 500_000_000)),
-    Case(Plain("(a>=1U[0,500000000]b>=2)"), Read(3, 500_000_000)),
+    Case(Plain("a>=500000"), Read { rows: 1, reach: 0 }),
+    Case(Plain("a<=-500000"), Read { rows: 1, reach: 0 }),
+    Case(Plain("F[3,3]a>=1"), Read { rows: 2, reach: 3 }),
+    Case(
+        Plain("F[0,500000000]a>=1"),
+        Read {
+            rows: 2,
+            reach: 500_000_000,
+        },
+    ),
+    Case(
+        Plain("G[500000000,500000000]a>=1"),
+        Read {
+            rows: 2,
+            reach: 500_000_000,
+        },
+    ),
+    Case(
+        Plain("(a>=1U[0,500000000]b>=2)"),
+        Read {
+            rows: 3,
+            reach: 500_000_000,
+        },
+    ),
     // Blanks, up to 1,024 bytes.
-    Case(Plain(" \n a\n>= - 1 \n"), Read(1, 0)),
-    Case(Led(1020, " ", "a>=1"), Read(1, 0)),
-    Case(Trailed("a>=1", 1020, "\n"), Read(1, 0)),
+    Case(Plain(" \n a\n>= - 1 \n"), Read { rows: 1, reach: 0 }),
+    Case(Led(1020, " ", "a>=1"), Read { rows: 1, reach: 0 }),
+    Case(Trailed("a>=1", 1020, "\n"), Read { rows: 1, reach: 0 }),
     // Sixteen deep, by each token that makes depth.
-    Case(Led(16, "!", "a>=1"), Read(17, 0)),
-    Case(Led(16, "G[0,0]", "a>=1"), Read(17, 0)),
-    Case(Led(16, "F[0,1]", "a>=1"), Read(17, 16)),
-    Case(Nested(16, "(", "a>=1", ")"), Read(1, 0)),
-    Case(Nested(16, "(a>=1U[0,2]", "b>=2", ")"), Read(33, 32)),
-    Case(Led(20, "(a>=1)&", "b>=2"), Read(41, 0)),
+    Case(Led(16, "!", "a>=1"), Read { rows: 17, reach: 0 }),
+    Case(Led(16, "G[0,0]", "a>=1"), Read { rows: 17, reach: 0 }),
+    Case(
+        Led(16, "F[0,1]", "a>=1"),
+        Read {
+            rows: 17,
+            reach: 16,
+        },
+    ),
+    Case(Nested(16, "(", "a>=1", ")"), Read { rows: 1, reach: 0 }),
+    Case(
+        Nested(16, "(a>=1U[0,2]", "b>=2", ")"),
+        Read {
+            rows: 33,
+            reach: 32,
+        },
+    ),
+    Case(Led(20, "(a>=1)&", "b>=2"), Read { rows: 41, reach: 0 }),
     // Rows.
-    Case(Plain("G[0,3](a<=0|b>=1800)"), Read(4, 3)),
-    Case(Plain("a>=1|b>=2&a<=3|!b<=4"), Read(8, 0)),
-    Case(Trailed("a>=1", 31, "&a>=1"), Read(63, 0)),
-    Case(Trailed("!a>=1", 31, "&a>=1"), Read(64, 0)),
-    Case(Trailed("!a>=1", 31, "|a>=1"), Read(64, 0)),
+    Case(Plain("G[0,3](a<=0|b>=1800)"), Read { rows: 4, reach: 3 }),
+    Case(Plain("a>=1|b>=2&a<=3|!b<=4"), Read { rows: 8, reach: 0 }),
+    Case(Trailed("a>=1", 31, "&a>=1"), Read { rows: 63, reach: 0 }),
+    Case(Trailed("!a>=1", 31, "&a>=1"), Read { rows: 64, reach: 0 }),
+    Case(Trailed("!a>=1", 31, "|a>=1"), Read { rows: 64, reach: 0 }),
     // Reach is added along a path, and the greater of two paths counts.
-    Case(Led(2, "F[0,250000000]", "a>=1"), Read(3, 500_000_000)),
+    Case(
+        Led(2, "F[0,250000000]", "a>=1"),
+        Read {
+            rows: 3,
+            reach: 500_000_000,
+        },
+    ),
     Case(
         Plain("F[0,500000000]a>=1&G[0,500000000]b>=1"),
-        Read(5, 500_000_000),
+        Read {
+            rows: 5,
+            reach: 500_000_000,
+        },
     ),
 ];

@@ -12,14 +12,18 @@ static NAMES: [&[u8]; 17] = [
 ];
 
 // A text, its tokens and their places.
-pub(crate) struct Words(&'static str, &'static [Token], &'static [usize]);
+pub(crate) struct Words {
+    text: &'static str,
+    tokens: &'static [Token],
+    places: &'static [usize],
+}
 
 impl Words {
     pub(crate) fn run(&self, rt: &HostRuntime, tally: &mut Tally) -> io::Result<()> {
-        let label = format!(in rt.alloc(); "{:?}", self.0)?;
-        match tokenize(self.0.as_bytes(), &NAMES) {
+        let label = format!(in rt.alloc(); "{:?}", self.text)?;
+        match tokenize(self.text.as_bytes(), &NAMES) {
             Ok(found) => {
-                let right = found.tokens() == self.1 && found.places() == self.2;
+                let right = found.tokens() == self.tokens && found.places() == self.places;
                 let count = found.tokens().len();
                 tally.note(rt, label, format_args!("{count} tokens"), right)
             }
@@ -29,46 +33,62 @@ impl Words {
 }
 
 // A text, and the place at which no token begins.
-pub(crate) struct BadWord(&'static str, usize);
+pub(crate) struct BadWord {
+    text: &'static str,
+    place: usize,
+}
 
 impl BadWord {
     pub(crate) fn run(&self, rt: &HostRuntime, tally: &mut Tally) -> io::Result<()> {
-        let label = format!(in rt.alloc(); "{:?}", self.0)?;
-        match tokenize(self.0.as_bytes(), &NAMES) {
+        let label = format!(in rt.alloc(); "{:?}", self.text)?;
+        match tokenize(self.text.as_bytes(), &NAMES) {
             Ok(_) => tally.note(rt, label, "no fault", false),
             Err(TokenFault::TooLong) => tally.note(rt, label, "too long", false),
             Err(TokenFault::Malformed { at }) => {
-                tally.note(rt, label, format_args!("no token at {at}"), at == self.1)
+                tally.note(
+                    rt,
+                    label,
+                    format_args!("no token at {at}"),
+                    at == self.place,
+                )
             }
         }
     }
 }
 
 pub(crate) static WORDS: [Words; 7] = [
-    Words("", &[], &[]),
-    Words(" 12ab\n", &[Token::Number(12), Token::Name(None)], &[1, 3]),
-    Words(
-        "hot>=-0",
-        &[
+    Words {
+        text: "",
+        tokens: &[],
+        places: &[],
+    },
+    Words {
+        text: " 12ab\n",
+        tokens: &[Token::Number(12), Token::Name(None)],
+        places: &[1, 3],
+    },
+    Words {
+        text: "hot>=-0",
+        tokens: &[
             Token::Name(Some(0)),
             Token::AtLeast,
             Token::Minus,
             Token::Number(0),
         ],
-        &[0, 3, 5, 6],
-    ),
-    Words(
-        "flow <= 999999999",
-        &[
+        places: &[0, 3, 5, 6],
+    },
+    Words {
+        text: "flow <= 999999999",
+        tokens: &[
             Token::Name(Some(1)),
             Token::AtMost,
             Token::Number(999999999),
         ],
-        &[0, 5, 8],
-    ),
-    Words(
-        "G[0,3]Fa1234567",
-        &[
+        places: &[0, 5, 8],
+    },
+    Words {
+        text: "G[0,3]Fa1234567",
+        tokens: &[
             Token::Always,
             Token::Left,
             Token::Number(0),
@@ -78,11 +98,11 @@ pub(crate) static WORDS: [Words; 7] = [
             Token::Eventually,
             Token::Name(None),
         ],
-        &[0, 1, 2, 3, 4, 5, 6, 7],
-    ),
-    Words(
-        ")U3|&!(",
-        &[
+        places: &[0, 1, 2, 3, 4, 5, 6, 7],
+    },
+    Words {
+        text: ")U3|&!(",
+        tokens: &[
             Token::Close,
             Token::Until,
             Token::Number(3),
@@ -91,26 +111,50 @@ pub(crate) static WORDS: [Words; 7] = [
             Token::Not,
             Token::Open,
         ],
-        &[0, 1, 2, 3, 4, 5, 6],
-    ),
-    Words(
-        "x p q",
-        &[
+        places: &[0, 1, 2, 3, 4, 5, 6],
+    },
+    Words {
+        text: "x p q",
+        tokens: &[
             Token::Name(Some(3)),
             Token::Name(Some(15)),
             Token::Name(None),
         ],
-        &[0, 2, 4],
-    ),
+        places: &[0, 2, 4],
+    },
 ];
 
 pub(crate) static FAULTS: [BadWord; 8] = [
-    BadWord("a23456789", 0),
-    BadWord(" 1234567890", 1),
-    BadWord("a>=007", 3),
-    BadWord("a >", 2),
-    BadWord("a> =1", 1),
-    BadWord("a @ b", 2),
-    BadWord("G[0,007]a>=1", 4),
-    BadWord("x&temperature", 2),
+    BadWord {
+        text: "a23456789",
+        place: 0,
+    },
+    BadWord {
+        text: " 1234567890",
+        place: 1,
+    },
+    BadWord {
+        text: "a>=007",
+        place: 3,
+    },
+    BadWord {
+        text: "a >",
+        place: 2,
+    },
+    BadWord {
+        text: "a> =1",
+        place: 1,
+    },
+    BadWord {
+        text: "a @ b",
+        place: 2,
+    },
+    BadWord {
+        text: "G[0,007]a>=1",
+        place: 4,
+    },
+    BadWord {
+        text: "x&temperature",
+        place: 2,
+    },
 ];

@@ -46,8 +46,8 @@ over_word : (names : List (List ℕ)) (text w rest : List ℕ) (t : Token) → t
 over_word names text w rest t e s l (inl none) = not_empty (word_piece (view names w t s) rest l) (sym e ∙ none)
 over_word names text w rest t e s l (inr (no_word some clear none)) = none w rest t e s
 over_word names text w rest t e s l (inr (no_form {w = v} {rest = tail} d m bad)) =
-    let v-w = same_piece (bad_piece bad tail m) (word_piece (view names w t s) rest l) (sym d ∙ e) in
-    bad_word (subst Malformed v-w bad) (view names w t s)
+    let same_words = same_piece (bad_piece bad tail m) (word_piece (view names w t s) rest l) (sym d ∙ e) in
+    bad_word (subst Malformed same_words bad) (view names w t s)
 
 -- two readings that end for good end at one place, with the same tokens
 pub record Same (q q' : ℕ) (ps ps' : List ℕ) (ts ts' : List Token) : Type 0 where
@@ -73,10 +73,10 @@ module _ (names : List (List ℕ)) where
   same (word {w = w} {after = after} {token = t} e s l r) (blank h r') o o' = absurd (not_blank (word_piece (view names w t s) after l) (subst (Begins Blank) e h))
   same {p = p} (word {w = w} {after = after} {token = t} e s l r) (word {w = v} {after = tail} {token = u} e' s' l' r') o o' =
       let all = sym e ∙ e' in
-      let w-v = same_piece (word_piece (view names w t s) after l) (word_piece (view names v u s') tail l') all in
-      let t-u = same_token (view names w t s) (subst (λ x. View names x u) (sym w-v) (view names v u s')) in
-      let more = same r (moved p w-v all r') o o' in
-      record { place = more.place; places = ap (λ x. p ∷ x) more.places; tokens = λ i. t-u i ∷ more.tokens i }
+      let same_words = same_piece (word_piece (view names w t s) after l) (word_piece (view names v u s') tail l') all in
+      let same_tokens = same_token (view names w t s) (subst (λ x. View names x u) (sym same_words) (view names v u s')) in
+      let more = same r (moved p same_words all r') o o' in
+      record { place = more.place; places = ap (λ x. p ∷ x) more.places; tokens = λ i. same_tokens i ∷ more.tokens i }
 
 no_token_in_none : {names : List (List ℕ)} → NoToken names [] → ⊥
 no_token_in_none (no_word some clear none) = omega arith

@@ -2,14 +2,14 @@
 use Rattle.std.proofs.Common.{◌≡◌, ℕ, ◌+◌, ◌-◌, ◌<◌, ◌≤◌, List, [], ◌∷◌, ◌++◌, length, get_or, drop, Option, sym, refl, ap, ◌∙◌, subst, inl, ⊎_elim, arith}
 use mathlib.Core.List.{head-eq_of_cons-eq, tail-eq_of_cons-eq}
 use Rattle.std.specs.List.{between}
-use Rattle.std.proofs.lemmas.List.{take-append-drop, drop-drop, drop_more, length-drop}
+use Rattle.std.proofs.lemmas.List.{take-append-drop, drop-drop, drop_more, length-drop, length-take}
 use Rattle.std.proofs.lemmas.List.Edits.{between_none, between_more, length-between}
 use Rattle.std.proofs.lemmas.Bool.{cases_lt, cases_eq}
 use Rattle.tokens.specs.declared.fault.TokenFault.TheVariants.{Malformed}
 use Rattle.tokens.specs.declared.token.Token.{Token}
 use Rattle.tokens.specs.declared.token.Token.TheVariants.{Or, And, Not, Open, Close, Left, Right, Comma, Minus, Always, Eventually, Until, AtLeast, AtMost, Name, Number}
 use Rattle.tokens.specs.Words.{Small, Digit, Blank, NameByte, Begins, decimal, LineOf, Spells}
-use Rattle.tokens.specs.Splits.{Longest, Malformed as Ill-formed, long_name, long_number, leading_zero, no_word, no_form}
+use Rattle.tokens.specs.Splits.{Longest, Malformed as IllFormed, long_name, long_number, leading_zero, no_word, no_form}
 use Rattle.tokens.specs.Steps.{RunTo, WordAt, FaultAt, NoSign, NoOrder}
 use Rattle.tokens.proofs.Runs.{begins_at, at_begins, ends_at}
 use Rattle.tokens.proofs.Pieces.{begins_more, begins_front, clash, small_digit}
@@ -19,6 +19,9 @@ pub parted : (text : List ℕ) (at end : ℕ) → at ≤ end → drop at text �
 parted text at end on =
     let far : at + (end - at) ≡ end = omega arith in
     sym (take-append-drop (end - at) (drop at text)) ∙ ap (λ r. between at end text ++ r) (drop-drop (end - at) at text ∙ ap (λ n. drop n text) far)
+
+pub run_few : (text : List ℕ) (at end n : ℕ) → end - at ≤ n → length (between at end text) ≤ n
+run_few text at end n few = simp length-take (omega arith)
 
 -- a run of P that begins with a Q is one byte long at least, and begins with a Q
 module _ (P Q : ℕ → Type 0) (within : (b : ℕ) → Q b → P b) (text : List ℕ) (at end : ℕ) (run : RunTo P text at end) (first : Begins Q (drop at text)) where
@@ -88,24 +91,24 @@ module _ (names : List (List ℕ)) (text : List ℕ) (at end : ℕ) where
     pub number_fault : at < length text → ((end - at ≤ 9) × (get_or text at 0 ≡ 48 → end - at ≤ 1) → ⊥) → FaultAt names text at (Malformed at)
     number_fault here bad = record { place = refl; none = no_form (parted text at end run.on) (longest_number digit run.over) (⊎_elim many few (cases_lt 9 (end - at))) }
       where
-        many : 9 < end - at → Ill-formed (between at end text)
+        many : 9 < end - at → IllFormed (between at end text)
         many h = long_number digit run.all (omega (arith, long))
 
-        zero : get_or text at 0 ≡ 48 → 1 < end - at → Ill-formed (between at end text)
+        zero : get_or text at 0 ≡ 48 → 1 < end - at → IllFormed (between at end text)
         zero z h = leading_zero (run_first Digit (λ b. b ≡ 48) (λ b e. (omega arith, omega arith)) text at end run (begins_at (λ b. b ≡ 48) text at here z)) run.all (omega (arith, long))
 
-        few : end - at ≤ 9 → Ill-formed (between at end text)
+        few : end - at ≤ 9 → IllFormed (between at end text)
         few short = ⊎_elim (λ z. ⊎_elim (zero z) (λ one. absurd (bad (short, λ _. one))) (cases_lt 1 (end - at))) (λ other. absurd (bad (short, λ z. absurd (other z)))) (cases_eq (get_or text at 0) 48)
 
 -- what begins with neither a letter nor a digit, and is no symbol, is no word
-module _ (names : List (List ℕ)) (b : ℕ) (bs rest : List ℕ) (no_sign : NoSign b) (no-order : Begins (λ c. c ≡ 61) bs → NoOrder b) (no-small : Small b → ⊥) (no_digit : Digit b → ⊥) where
+module _ (names : List (List ℕ)) (b : ℕ) (bs rest : List ℕ) (no_sign : NoSign b) (no_order : Begins (λ c. c ≡ 61) bs → NoOrder b) (no_small : Small b → ⊥) (no_digit : Digit b → ⊥) where
   starts : (x : ℕ) (xs w : List ℕ) → b ∷ bs ≡ w ++ rest → w ≡ x ∷ xs → b ∷ bs ≡ x ∷ (xs ++ rest)
   starts x xs w e s = e ∙ ap (λ v. v ++ rest) s
 
   paired : (x : ℕ) (w : List ℕ) → (NoOrder b → b ≡ x → ⊥) → b ∷ bs ≡ w ++ rest → w ≡ x ∷ 61 ∷ [] → ⊥
   paired x w bad e s =
       let all = starts x (61 ∷ []) w e s in
-      bad (no-order (subst (Begins (λ c. c ≡ 61)) (sym (tail-eq_of_cons-eq all)) refl)) (head-eq_of_cons-eq all)
+      bad (no_order (subst (Begins (λ c. c ≡ 61)) (sym (tail-eq_of_cons-eq all)) refl)) (head-eq_of_cons-eq all)
 
   pub none_starts : (w : List ℕ) (t : Token) → b ∷ bs ≡ w ++ rest → Spells names w t → ⊥
   none_starts w Or e s = no_sign.0 (head-eq_of_cons-eq (starts 124 [] w e s))
@@ -122,11 +125,11 @@ module _ (names : List (List ℕ)) (b : ℕ) (bs rest : List ℕ) (no_sign : NoS
   none_starts w Until e s = no_sign.1.1.1.1.1.1.1.1.1.1.1.0 (head-eq_of_cons-eq (starts 85 [] w e s))
   none_starts w AtLeast e s = paired 62 w (λ n. n.0) e s
   none_starts w AtMost e s = paired 60 w (λ n. n.1.0) e s
-  none_starts w (Name line) e s = no-small (subst (Begins Small) (sym e) (begins_more Small w rest s.0.letter))
+  none_starts w (Name line) e s = no_small (subst (Begins Small) (sym e) (begins_more Small w rest s.0.letter))
   none_starts w (Number n) e s = no_digit (subst (Begins Digit) (sym e) (begins_more Digit w rest s.0.digit))
 
 -- a symbol at a place, or none
-module _ (names : List (List ℕ)) (text : List ℕ) (at : ℕ) (here : at < length text) (no-blank : Begins Blank (drop at text) → ⊥) (no-small : Begins Small (drop at text) → ⊥) (no_digit : Begins Digit (drop at text) → ⊥) where
+module _ (names : List (List ℕ)) (text : List ℕ) (at : ℕ) (here : at < length text) (no_blank : Begins Blank (drop at text) → ⊥) (no_small : Begins Small (drop at text) → ⊥) (no_digit : Begins Digit (drop at text) → ⊥) where
   one_byte : between at (at + 1) text ≡ get_or text at 0 ∷ []
   one_byte = between_more text at at 0 (omega arith) here ∙ ap (λ w. w ++ get_or text at 0 ∷ []) (between_none text at)
 
@@ -136,7 +139,7 @@ module _ (names : List (List ℕ)) (text : List ℕ) (at : ℕ) (here : at < len
       ap (λ n. between at n text) next ∙ between_more text at (at + 1) 0 (omega arith) more ∙ (λ i. one_byte i ++ equals i ∷ [])
 
   solid : (w rest : List ℕ) → Longest (get_or text at 0 ∷ w) rest
-  solid w rest = record { name = λ s. absurd (no-small (begins_at Small text at here s)); number = λ d. absurd (no_digit (begins_at Digit text at here d)) }
+  solid w rest = record { name = λ s. absurd (no_small (begins_at Small text at here s)); number = λ d. absurd (no_digit (begins_at Digit text at here d)) }
 
   pub sign_word : (t : Token) → Spells names (get_or text at 0 ∷ []) t → WordAt names text at t (at + 1)
   sign_word t s =
@@ -148,12 +151,12 @@ module _ (names : List (List ℕ)) (text : List ℕ) (at : ℕ) (here : at < len
       record { on = omega arith; within = omega arith; spells = subst (λ w. Spells names w t) (sym both) s; longest = subst (λ w. Longest w (drop (at + 2) text)) (sym both) (solid (61 ∷ []) _) }
 
   pub symbol_fault : NoSign (get_or text at 0) → (at + 1 < length text → get_or text (at + 1) 0 ≡ 61 → NoOrder (get_or text at 0)) → FaultAt names text at (Malformed at)
-  symbol_fault no_sign no-order =
+  symbol_fault no_sign no_order =
       let whole = drop_more text at 0 here in
       let after : Begins (λ c. c ≡ 61) (drop (at + 1) text) → NoOrder (get_or text at 0) =
-      λ b. ⊎_elim (λ more. no-order more (at_begins (λ c. c ≡ 61) text (at + 1) more b)) (λ past. absurd (ends_at (λ c. c ≡ 61) text (at + 1) past b)) (cases_lt (at + 1) (length text)) in
+      λ b. ⊎_elim (λ more. no_order more (at_begins (λ c. c ≡ 61) text (at + 1) more b)) (λ past. absurd (ends_at (λ c. c ≡ 61) text (at + 1) past b)) (cases_lt (at + 1) (length text)) in
       record {
         place = refl;
         none =
-            no_word (simp length-drop (omega arith)) no-blank (λ w rest t e s. none_starts names (get_or text at 0) (drop (at + 1) text) rest no_sign after (λ h. no-small (begins_at Small text at here h)) (λ h. no_digit (begins_at Digit text at here h)) w t (sym whole ∙ e) s);
+            no_word (simp length-drop (omega arith)) no_blank (λ w rest t e s. none_starts names (get_or text at 0) (drop (at + 1) text) rest no_sign after (λ h. no_small (begins_at Small text at here h)) (λ h. no_digit (begins_at Digit text at here h)) w t (sym whole ∙ e) s);
       }

@@ -1,12 +1,9 @@
-use Rattle.std.proofs.Common.{◌∙◌, arith, length-set}
-use Rattle.rule_lines.proofs.Keeping.{listed_more, listed_all}
+use Rattle.std.proofs.Common.{map, ap, ◌∙◌, arith, rules}
+use Rattle.rule_lines.specs.Kept.{held}
+use Rattle.rule_lines.proofs.Keeping.{listed}
 use Rattle.rule_lines.proofs.names.Names.list.Goals as goal
 
-pub loop-k-preserved : goal.loop-k-preserved
-loop-k-preserved c = (
-  length-set c.loop-k.list c.loop-k.k c.bytes.result ∙ c.loop-k.invariant.0,
-  listed_more c.args.self.now.parts c.loop-k.list c.bytes.result c.loop-k.k _ (omega arith) (omega arith) c.loop-k.invariant.1 c.bytes.ensures,
-)
-
 pub returns : goal.returns
-returns c = listed_all c.args.self.now.parts c.loop-k.list c.loop-k.k (omega arith) (omega arith) c.loop-k.invariant.1
+returns c =
+    let made = c.map.ensures.items in
+    listed c.each_ref.result c.map.result (omega (arith, made.long)) (λ i d e h. let call = made.at i d e (omega arith) in search rules) ∙ ap (map held) c.each_ref.ensures.items
