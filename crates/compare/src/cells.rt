@@ -47,7 +47,57 @@ pub(crate) fn ends_read(reading: Reading) -> Ends {
     }
 }
 
-// A piece as the reference has it: such values can be compared, and pieces of the judge cannot.
+// What a piece may hold, and how it is compared: the judge's own values are not told equal by `==`.
+pub trait Plain: Copy {
+    type Plain: Copy + PartialEq;
+
+    // What stands in a piece that was not written.
+    fn blank() -> Self;
+
+    fn plain(self) -> Self::Plain;
+}
+
+impl<G: Measured> Plain for Range<G> {
+    type Plain = Ends;
+
+    // No range of the judge runs from the highest to the lowest.
+    fn blank() -> Range<G> {
+        Range {
+            lower: G::highest(),
+            upper: G::lowest(),
+        }
+    }
+
+    fn plain(self) -> Ends {
+        ends_of(self)
+    }
+}
+
+impl Plain for bool {
+    type Plain = bool;
+
+    fn blank() -> bool {
+        true
+    }
+
+    fn plain(self) -> bool {
+        self
+    }
+}
+
+impl Plain for Reading {
+    type Plain = Ends;
+
+    fn blank() -> Reading {
+        Reading::widest()
+    }
+
+    fn plain(self) -> Ends {
+        ends_read(self)
+    }
+}
+
+// A piece as the reference has it.
 #[derive(Clone, Copy, PartialEq, Eq)]
 pub struct Held<V> {
     pub start: u32,
@@ -64,41 +114,20 @@ pub trait Cell: Copy {
     fn held(self) -> Self::Held;
 }
 
-impl<G: Measured> Cell for Piece<Range<G>> {
-    type Held = Held<Ends>;
+impl<V: Plain> Cell for Piece<V> {
+    type Held = Held<V::Plain>;
 
-    fn blank() -> Piece<Range<G>> {
+    fn blank() -> Piece<V> {
         Piece {
             start: u32::MAX,
-            value: Range {
-                lower: G::highest(),
-                upper: G::lowest(),
-            },
+            value: V::blank(),
         }
     }
 
-    fn held(self) -> Held<Ends> {
+    fn held(self) -> Held<V::Plain> {
         Held {
             start: self.start,
-            value: ends_of(self.value),
-        }
-    }
-}
-
-impl Cell for Piece<bool> {
-    type Held = Held<bool>;
-
-    fn blank() -> Piece<bool> {
-        Piece {
-            start: u32::MAX,
-            value: true,
-        }
-    }
-
-    fn held(self) -> Held<bool> {
-        Held {
-            start: self.start,
-            value: self.value,
+            value: self.value.plain(),
         }
     }
 }
@@ -116,24 +145,6 @@ impl Cell for Mark {
 
     fn held(self) -> Mark {
         self
-    }
-}
-
-impl Cell for Piece<Reading> {
-    type Held = Held<Ends>;
-
-    fn blank() -> Piece<Reading> {
-        Piece {
-            start: u32::MAX,
-            value: Reading::widest(),
-        }
-    }
-
-    fn held(self) -> Held<Ends> {
-        Held {
-            start: self.start,
-            value: ends_read(self.value),
-        }
     }
 }
 

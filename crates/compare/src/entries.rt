@@ -20,7 +20,7 @@ impl<'a> Pair<'a> {
         let Some((reading, next)) = self.job.reading(line, t as u64) else {
             return row >= self.forecast.lines;
         };
-        let change = next.map_or(TICKS, |next| next as usize);
+        let change = next.map(|tick| tick as usize);
         self.forecast.reading(row, t) == ends_read(reading)
             && self.forecast.change(row, t) == change
     }

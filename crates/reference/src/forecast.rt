@@ -90,12 +90,10 @@ impl Forecast {
         Ok(())
     }
 
-    // The first tick behind t at which the line reads otherwise; the tick behind those that are kept if there is none.
-    pub fn change(&self, line: usize, t: usize) -> usize {
+    // The first tick behind t at which the line reads otherwise, if there is one.
+    pub fn change(&self, line: usize, t: usize) -> Option<usize> {
         let reading = self.reading(line, t);
-        (t..TICKS)
-            .find(|u| self.reading(line, *u) != reading)
-            .unwrap_or(TICKS)
+        (t..TICKS).find(|u| self.reading(line, *u) != reading)
     }
 
     // The first tick with the widest reading.
