@@ -13,7 +13,7 @@ pub struct Pair<'a> {
     pub forecast: Forecast,
 }
 
-impl<'a> Pair<'a> {
+impl Pair<'_> {
     // Whether the job reads at a tick of a line as the reference does, and names the tick where that changes.
     fn reads_alike(&self, line: u8, t: usize) -> bool {
         let row = line as usize;

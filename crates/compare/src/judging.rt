@@ -18,7 +18,7 @@ fn tests_from(row: Row, lines: usize) -> bool {
     matches!(row, Row::Test { line, .. } if line as usize >= lines)
 }
 
-impl<'q, 'a> Question<'q, 'a> {
+impl Question<'_, '_> {
     pub(crate) fn judge<G: Measured>(
         &self,
         cells: &mut [Piece<Range<G>>],

@@ -86,7 +86,7 @@ impl<G: Measured> Lent<G> {
         Ok(Lent { rows, wants, marks })
     }
 
-    pub fn mark<'q, 'a>(&mut self, question: &Question<'q, 'a>) -> Result<Marking<G>, MarkFault> {
+    pub fn mark(&mut self, question: &Question<'_, '_>) -> Result<Marking<G>, MarkFault> {
         mark::<G>(
             question.job,
             question.rule,

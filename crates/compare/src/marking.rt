@@ -31,7 +31,7 @@ impl<G: Measured> Whole<G> {
     }
 }
 
-impl<'q, 'a> Question<'q, 'a> {
+impl Question<'_, '_> {
     // Marks with so many cells.
     pub fn mark_in<G: Measured>(&self, whole: &Whole<G>, room: Room) -> Result<(), Mismatch> {
         let mut lent = Lent::<G>::blank(self.heap, room)?;

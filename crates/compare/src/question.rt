@@ -14,7 +14,7 @@ pub struct Question<'q, 'a> {
     pub tick: u32,
 }
 
-impl<'q, 'a> Question<'q, 'a> {
+impl Question<'_, '_> {
     // The verdict of the reference.
     pub(crate) fn verdict(&self, values: &Values) -> Ends {
         let last = self.rule.rows().len().wrapping_sub(1);

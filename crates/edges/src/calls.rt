@@ -43,11 +43,11 @@ impl fmt::Debug for Reply {
     }
 }
 
-fn enter<'a>(job: &mut Job<'a>, entry: Entry) -> Result<(), EnterFault> {
+fn enter(job: &mut Job<'_>, entry: Entry) -> Result<(), EnterFault> {
     job.enter(entry.line, entry.from, entry.to, entry.lower, entry.upper)
 }
 
-fn fill<'a>(job: &mut Job<'a>, line: u8, end: u32) -> u32 {
+fn fill(job: &mut Job<'_>, line: u8, end: u32) -> u32 {
     let mut accepted = 0u32;
     for t in (0..end).step_by(2) {
         if job.enter(line, t, t + 1, 0, 0).is_ok() {
@@ -58,7 +58,7 @@ fn fill<'a>(job: &mut Job<'a>, line: u8, end: u32) -> u32 {
 }
 
 // No line has more than 64 pieces.
-fn pieces<'a>(job: &Job<'a>, line: u8) -> u32 {
+fn pieces(job: &Job<'_>, line: u8) -> u32 {
     let found = iter::successors(job.reading(line, 0), |(_, next)| {
         next.and_then(|t| job.reading(line, t as u64))
     });
@@ -66,7 +66,7 @@ fn pieces<'a>(job: &Job<'a>, line: u8) -> u32 {
 }
 
 impl Call {
-    fn play<'a>(&self, job: &mut Job<'a>) -> Reply {
+    fn play(&self, job: &mut Job<'_>) -> Reply {
         match self {
             Enter(entry) => match enter(job, *entry) {
                 Ok(()) => Done,
@@ -425,7 +425,7 @@ static STEPS: [Step; 61] = [
 const CELLS: usize = 130;
 
 // Plays the steps, and reports their replies.
-fn play_all<'r>(report: &mut Report<'r>, cells: &mut [Piece<Reading>]) -> io::Result<()> {
+fn play_all(report: &mut Report<'_>, cells: &mut [Piece<Reading>]) -> io::Result<()> {
     let mut job = Job::open(2, cells);
     for step in &STEPS {
         let reply = step.call.play(&mut job);
@@ -443,7 +443,7 @@ fn play_accepted(cells: &mut [Piece<Reading>]) {
 }
 
 // Plays the steps, and then once more without those that are turned down: the cells end up the same.
-pub(crate) fn check_calls<'r>(report: &mut Report<'r>) -> io::Result<()> {
+pub(crate) fn check_calls(report: &mut Report<'_>) -> io::Result<()> {
     let mut one = [<Piece<Reading> as Cell>::blank(); CELLS];
     let mut other = [<Piece<Reading> as Cell>::blank(); CELLS];
     play_all(report, &mut one)?;
@@ -520,7 +520,7 @@ impl Opening {
 }
 
 // Opens jobs: as many lines as are wanted, if the cells allow it, and 16 at most; cells behind them stay.
-pub(crate) fn check_openings<'r>(report: &mut Report<'r>) -> io::Result<()> {
+pub(crate) fn check_openings(report: &mut Report<'_>) -> io::Result<()> {
     for opening in &OPENINGS {
         let (lines, behind) = opening.open(report.rt.alloc())?;
         report.note("lines of a job", lines, lines == opening.lines && behind)?;

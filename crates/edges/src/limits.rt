@@ -104,7 +104,7 @@ static TEXTS: [Text; 9] = [
 ];
 
 // Prints the number of each refusal; 0 if the text is read.
-pub(crate) fn check_texts<'r>(report: &mut Report<'r>) -> io::Result<()> {
+pub(crate) fn check_texts(report: &mut Report<'_>) -> io::Result<()> {
     for text in &TEXTS {
         let fault = Rule::read(text.rule.as_bytes(), &NAMES).err();
         let number = fault.map_or(0, RuleFault::number);
@@ -159,10 +159,7 @@ static ASKED: [Asked; 8] = [
 ];
 
 // Judges and marks with 0 cells up to more than enough, of each kind alone; gives how many the whole lists take.
-fn try_rooms<'q, 'a, G: Measured>(
-    question: Question<'q, 'a>,
-    whole: &Whole<G>,
-) -> Result<Room, Mismatch> {
+fn try_rooms<G: Measured>(question: Question<'_, '_>, whole: &Whole<G>) -> Result<Room, Mismatch> {
     let used = whole.used;
     let rows = written(whole.lent.rows.as_slice());
     let most = used.rows.max(used.wants).max(used.marks);
@@ -177,7 +174,7 @@ fn try_rooms<'q, 'a, G: Measured>(
 
 impl Asked {
     // The cells that the whole lists take, if all agrees.
-    fn ask<'a, G: Measured>(&self, heap: Global, pair: &Pair<'a>) -> Result<Room, Mismatch> {
+    fn ask<G: Measured>(&self, heap: Global, pair: &Pair<'_>) -> Result<Room, Mismatch> {
         let rule = read_rule(self.rule)?;
         let question = Question {
             heap,
@@ -192,7 +189,7 @@ impl Asked {
     }
 }
 
-fn check_asked<'r, 'a>(report: &mut Report<'r>, pair: &Pair<'a>) -> io::Result<()> {
+fn check_asked(report: &mut Report<'_>, pair: &Pair<'_>) -> io::Result<()> {
     for asked in &ASKED {
         let used = asked.ask::<Truth>(report.rt.alloc(), pair);
         report.note(asked.rule, used, used.is_ok())?;
@@ -380,7 +377,7 @@ impl Refusal {
     }
 
     // Judges and marks, and compares how that is turned down.
-    fn check<'a, G: Measured>(&self, heap: Global, job: &Job<'a>) -> Result<(), Mismatch> {
+    fn check<G: Measured>(&self, heap: Global, job: &Job<'_>) -> Result<(), Mismatch> {
         let rule = read_rule(self.rule)?;
         let question = Question {
             heap,
@@ -399,7 +396,7 @@ impl Refusal {
 }
 
 // Prints the number of each refusal; 0 if there is none.
-fn check_refusals<'r, 'a>(report: &mut Report<'r>, job: &Job<'a>) -> io::Result<()> {
+fn check_refusals(report: &mut Report<'_>, job: &Job<'_>) -> io::Result<()> {
     for refusal in &REFUSALS {
         let truth = refusal.check::<Truth>(report.rt.alloc(), job);
         let margin = refusal.check::<Margin>(report.rt.alloc(), job);
@@ -410,14 +407,14 @@ fn check_refusals<'r, 'a>(report: &mut Report<'r>, job: &Job<'a>) -> io::Result<
 }
 
 // Whether all entries are accepted, and made as the reference makes them.
-fn enter_all<'a>(pair: &mut Pair<'a>) -> bool {
+fn enter_all(pair: &mut Pair<'_>) -> bool {
     ENTRIES
         .iter()
         .all(|entry| matches!(pair.enter(*entry), Ok(Ok(()))))
 }
 
 // Asks an open job, and asks again once it is sealed.
-pub(crate) fn check_limits<'r>(report: &mut Report<'r>) -> io::Result<()> {
+pub(crate) fn check_limits(report: &mut Report<'_>) -> io::Result<()> {
     let mut cells = [<Piece<Reading> as Cell>::blank(); 128];
     let mut pair = Pair {
         job: Job::open(2, &mut cells),

@@ -8,7 +8,7 @@ pub(crate) struct Report<'r> {
     pub(crate) wrong: u64,
 }
 
-impl<'r> Report<'r> {
+impl Report<'_> {
     // Counts a case and prints what it is answered.
     pub(crate) fn note(
         &mut self,

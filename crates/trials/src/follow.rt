@@ -27,7 +27,7 @@ fn touches(rows: &[Row], marks: &[Mark], entry: Entry) -> bool {
     })
 }
 
-impl<'r, 'a> Case<'r, 'a> {
+impl Case<'_, '_> {
     // The verdict after an entry: inside the last one, and the marked one while that stands.
     fn compare_verdicts<G: Measured>(
         &self,
@@ -58,12 +58,7 @@ impl<'r, 'a> Case<'r, 'a> {
 
 impl Trials {
     // Makes the line's readings exact from the mark's first tick to its last, each by one of its ends.
-    fn make_exact<'a>(
-        &mut self,
-        job: &mut Job<'a>,
-        line: u8,
-        mark: Mark,
-    ) -> Result<(), EnterFault> {
+    fn make_exact(&mut self, job: &mut Job<'_>, line: u8, mark: Mark) -> Result<(), EnterFault> {
         let mut t = mark.first;
         // No line has more pieces.
         for _ in 0..64 {
@@ -89,9 +84,9 @@ impl Trials {
     }
 
     // Makes all marked readings exact.
-    fn make_marked_exact<'a>(
+    fn make_marked_exact(
         &mut self,
-        job: &mut Job<'a>,
+        job: &mut Job<'_>,
         rows: &[Row],
         marks: &[Mark],
     ) -> Result<(), EnterFault> {
@@ -103,9 +98,9 @@ impl Trials {
     }
 
     // Makes some entries one by one, and gives the last verdict.
-    pub(crate) fn narrow<'r, 'a, G: Measured>(
+    pub(crate) fn narrow<G: Measured>(
         &mut self,
-        case: &mut Case<'r, 'a>,
+        case: &mut Case<'_, '_>,
         whole: &Whole<G>,
     ) -> Result<Ends, Mismatch> {
         let mut last = whole.verdict;
@@ -125,9 +120,9 @@ impl Trials {
     }
 
     // Makes all marked readings exact, where the job takes that, and sees that they settle the verdict.
-    pub(crate) fn settle<'r, 'a, G: Measured>(
+    pub(crate) fn settle<G: Measured>(
         &mut self,
-        case: &mut Case<'r, 'a>,
+        case: &mut Case<'_, '_>,
         whole: &Whole<G>,
         last: Ends,
     ) -> Result<(), Mismatch> {

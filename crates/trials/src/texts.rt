@@ -16,7 +16,7 @@ pub(crate) struct Writer<'w> {
     pub(crate) huge: bool,
 }
 
-impl<'w> Writer<'w> {
+impl Writer<'_> {
     // Writes a test, now and then of a line that the job may lack.
     fn write_test(&mut self) -> Result<(), AllocError> {
         let lines = if self.dice.one_in(64) { 3 } else { self.lines };

@@ -30,7 +30,7 @@ pub(crate) struct Case<'r, 'a> {
     pub(crate) tick: u32,
 }
 
-impl<'r, 'a> Case<'r, 'a> {
+impl<'a> Case<'_, 'a> {
     pub(crate) fn question(&self) -> Question<'_, 'a> {
         Question {
             heap: self.heap,
@@ -54,7 +54,7 @@ pub(crate) struct Trials {
 
 impl Trials {
     // Makes some random entries, and now and then seals the job.
-    fn enter_some<'a>(&mut self, pair: &mut Pair<'a>) -> Result<(), Mismatch> {
+    fn enter_some(&mut self, pair: &mut Pair<'_>) -> Result<(), Mismatch> {
         for _ in 0..self.dice.below(24) {
             let entry = random_entry(&mut self.dice, &pair.forecast);
             match pair.enter(entry)? {
@@ -70,7 +70,7 @@ impl Trials {
     }
 
     // Judges and marks in one kind of grade.
-    fn mark_as<'r, 'a, G: Measured>(&mut self, case: &Case<'r, 'a>) -> Result<Whole<G>, Mismatch> {
+    fn mark_as<G: Measured>(&mut self, case: &Case<'_, '_>) -> Result<Whole<G>, Mismatch> {
         let values = case.values::<G>();
         let question = case.question();
         let verdict = question.check_judge::<G>(&values)?;
@@ -82,16 +82,16 @@ impl Trials {
     }
 
     // Marks in one kind of grade, and sees what entries then do.
-    fn follow_as<'r, 'a, G: Measured>(&mut self, case: &mut Case<'r, 'a>) -> Result<(), Mismatch> {
+    fn follow_as<G: Measured>(&mut self, case: &mut Case<'_, '_>) -> Result<(), Mismatch> {
         let whole = self.mark_as::<G>(case)?;
         let last = self.narrow(case, &whole)?;
         self.settle(case, &whole, last)
     }
 
     // Judges and marks in two kinds of grade, and follows the second.
-    fn ask_in<'r, 'a, G: Measured, H: Measured>(
+    fn ask_in<G: Measured, H: Measured>(
         &mut self,
-        case: &mut Case<'r, 'a>,
+        case: &mut Case<'_, '_>,
     ) -> Result<(), Mismatch> {
         let question = case.question();
         if let Some(fault) = question.bar(case.pair.forecast.lines) {
