@@ -6,20 +6,18 @@ use grades::truth::Truth;
 use meaning::mark::Mark;
 use meaning::reading::Reading;
 use pieces::piece::Piece;
-use reference::ends::{Ends, Scale};
+use reference::ends::{Ends, Margins, Scale, Truths};
 use std::alloc::{AllocError, Global};
 
 // Grades as the reference has them.
 pub trait Measured: Grade {
-    fn scale() -> Scale;
+    type Scale: Scale;
 
     fn measure(self) -> i32;
 }
 
 impl Measured for Truth {
-    fn scale() -> Scale {
-        Scale::Truth
-    }
+    type Scale = Truths;
 
     fn measure(self) -> i32 {
         self.holds as i32
@@ -27,15 +25,14 @@ impl Measured for Truth {
 }
 
 impl Measured for Margin {
-    fn scale() -> Scale {
-        Scale::Margin
-    }
+    type Scale = Margins;
 
     fn measure(self) -> i32 {
         self.number()
     }
 }
 
+// No `From`: neither ranges nor ends are of this crate.
 pub fn ends_of<G: Measured>(range: Range<G>) -> Ends {
     Ends {
         lower: range.lower.measure(),
@@ -43,53 +40,101 @@ pub fn ends_of<G: Measured>(range: Range<G>) -> Ends {
     }
 }
 
-// All that a cell holds.
+pub(crate) fn ends_read(reading: Reading) -> Ends {
+    Ends {
+        lower: reading.lower(),
+        upper: reading.upper(),
+    }
+}
+
+// What a piece may hold, and how it is compared: the judge's own values are not told equal by `==`.
+pub trait Plain: Copy {
+    type Plain: Copy + PartialEq;
+
+    // What stands in a piece that was not written.
+    fn blank() -> Self;
+
+    fn plain(self) -> Self::Plain;
+}
+
+impl<G: Measured> Plain for Range<G> {
+    type Plain = Ends;
+
+    // No range of the judge runs from the highest to the lowest.
+    fn blank() -> Range<G> {
+        Range {
+            lower: G::highest(),
+            upper: G::lowest(),
+        }
+    }
+
+    fn plain(self) -> Ends {
+        ends_of(self)
+    }
+}
+
+impl Plain for bool {
+    type Plain = bool;
+
+    fn blank() -> bool {
+        true
+    }
+
+    fn plain(self) -> bool {
+        self
+    }
+}
+
+impl Plain for Reading {
+    type Plain = Ends;
+
+    fn blank() -> Reading {
+        Reading::widest()
+    }
+
+    fn plain(self) -> Ends {
+        ends_read(self)
+    }
+}
+
+// A piece as the reference has it.
 #[derive(Clone, Copy, PartialEq, Eq)]
-pub struct Held {
+pub struct Held<V> {
     pub start: u32,
-    pub ends: Ends,
+    pub value: V,
 }
 
 pub trait Cell: Copy {
+    // All that a cell holds.
+    type Held: Copy + PartialEq;
+
     // What stands in a cell that was not written.
     fn blank() -> Self;
 
-    fn held(self) -> Held;
+    fn held(self) -> Self::Held;
 }
 
-impl<G: Measured> Cell for Piece<Range<G>> {
-    fn blank() -> Piece<Range<G>> {
+impl<V: Plain> Cell for Piece<V> {
+    type Held = Held<V::Plain>;
+
+    fn blank() -> Piece<V> {
         Piece {
             start: u32::MAX,
-            value: Range {
-                lower: G::highest(),
-                upper: G::lowest(),
-            },
+            value: V::blank(),
         }
     }
 
-    fn held(self) -> Held {
+    fn held(self) -> Held<V::Plain> {
         Held {
             start: self.start,
-            ends: ends_of(self.value),
+            value: self.value.plain(),
         }
-    }
-}
-
-impl Cell for Piece<bool> {
-    fn blank() -> Piece<bool> {
-        Piece {
-            start: u32::MAX,
-            value: true,
-        }
-    }
-
-    fn held(self) -> Held {
-        wanted(self.start, self.value)
     }
 }
 
 impl Cell for Mark {
+    type Held = Mark;
+
     fn blank() -> Mark {
         Mark {
             row: 999,
@@ -98,92 +143,47 @@ impl Cell for Mark {
         }
     }
 
-    fn held(self) -> Held {
-        mark_from(self.row, self.first, self.after)
-    }
-}
-
-impl Cell for Piece<Reading> {
-    fn blank() -> Piece<Reading> {
-        Piece {
-            start: u32::MAX,
-            value: Reading::widest(),
-        }
-    }
-
-    fn held(self) -> Held {
-        Held {
-            start: self.start,
-            ends: Ends {
-                lower: self.value.lower(),
-                upper: self.value.upper(),
-            },
-        }
-    }
-}
-
-// What the cell of a piece of wants holds.
-pub fn wanted(start: u32, value: bool) -> Held {
-    let number = value as i32;
-    Held {
-        start,
-        ends: Ends {
-            lower: number,
-            upper: number,
-        },
-    }
-}
-
-// What the cell of a mark holds.
-pub fn mark_from(row: usize, first: u32, after: u32) -> Held {
-    Held {
-        start: first,
-        ends: Ends {
-            lower: row.min(1000) as i32,
-            upper: after.min(2_000_000_000) as i32,
-        },
+    fn held(self) -> Mark {
+        self
     }
 }
 
 pub fn blanks<C: Cell>(heap: Global, count: usize) -> Result<Vec<C>, AllocError> {
-    let mut cells = Vec::with_capacity(heap, count)?;
-    for _k in 0..count {
-        cells.push(C::blank())?;
-    }
-    Ok(cells)
+    vec![in heap; C::blank(); count]
 }
 
-// Whether the cell is there and holds this.
-pub fn holds<C: Cell>(cells: &[C], at: usize, held: Held) -> bool {
-    at < cells.len() && cells[at].held() == held
+fn is_blank<C: Cell>(cell: C) -> bool {
+    cell.held() == C::blank().held()
+}
+
+// The cells that were written, from the first on.
+pub fn written<C: Cell>(cells: &[C]) -> &[C] {
+    let used = cells.iter().take_while(|cell| !is_blank(**cell)).count();
+    &cells[..used]
 }
 
 // Whether no cell from `used` on was written.
 pub fn blank_from<C: Cell>(cells: &[C], used: usize) -> bool {
-    for k in used..cells.len() {
-        if cells[k].held() != C::blank().held() {
-            return false;
-        }
-    }
-    true
+    cells.iter().skip(used).all(|cell| is_blank(*cell))
 }
 
 // Whether both have so many cells, and these are the same.
 pub fn begin_alike<C: Cell>(one: &[C], other: &[C], used: usize) -> bool {
-    for k in 0..used {
-        if k >= one.len() || k >= other.len() || one[k].held() != other[k].held() {
-            return false;
-        }
+    match (one.get(..used), other.get(..used)) {
+        (Some(one), Some(other)) => one
+            .iter()
+            .zip(other)
+            .all(|(one, other)| one.held() == other.held()),
+        _ => false,
     }
-    true
 }
 
-// How many cells were written, from the first on.
-pub fn written<C: Cell>(cells: &[C]) -> usize {
-    for k in 0..cells.len() {
-        if cells[k].held() == C::blank().held() {
-            return k;
-        }
-    }
-    cells.len()
+// Whether so many cells hold the list, and no more.
+pub(crate) fn hold<C: Cell>(cells: &[C], used: usize, list: &[C::Held]) -> bool {
+    used == list.len()
+        && used <= cells.len()
+        && cells[..used]
+            .iter()
+            .zip(list)
+            .all(|(cell, held)| cell.held() == *held)
 }

@@ -1,67 +1,54 @@
 // Entries, made on a job and on the reference.
-use crate::mismatch::{Mismatch, all_right};
+use crate::cells::ends_read;
+use crate::mismatch::{Mismatch, ensure};
+use cases::field::Entry;
+use jobs::fault::{EnterFault, NoSuchLine};
 use jobs::job::Job;
-use reference::ends::Ends;
-use reference::forecast::{Entry, Forecast, LINES, TICKS};
+use reference::forecast::{Forecast, LINES, TICKS};
 
-// The number of the job's refusal; 0 if the entry is accepted.
-pub fn enter<'a>(job: &mut Job<'a>, entry: Entry) -> u8 {
-    match job.enter(entry.line, entry.from, entry.to, entry.lower, entry.upper) {
-        Ok(()) => 0,
-        Err(fault) => fault.number(),
+// A job, and what the reference has of it.
+#[derive(Drop)]
+pub struct Pair<'a> {
+    pub job: Job<'a>,
+    pub forecast: Forecast,
+}
+
+impl Pair<'_> {
+    // Whether the job reads at a tick of a line as the reference does, and names the tick where that changes.
+    fn reads_alike(&self, line: u8, t: usize) -> bool {
+        let row = line as usize;
+        let Some((reading, next)) = self.job.reading(line, t as u64) else {
+            return row >= self.forecast.lines;
+        };
+        let change = next.map(|tick| tick as usize);
+        self.forecast.reading(row, t) == ends_read(reading)
+            && self.forecast.change(row, t) == change
     }
-}
 
-// Whether the job reads at a tick of a line as the reference does, and names the tick where that changes.
-fn reads_alike<'a>(job: &Job<'a>, forecast: &Forecast, line: u8, t: usize) -> bool {
-    let Some(found) = job.reading(line, t as u64) else {
-        return line as usize >= forecast.lines;
-    };
-    let (reading, next) = found;
-    let ends = Ends {
-        lower: reading.lower(),
-        upper: reading.upper(),
-    };
-    let change = match next {
-        Some(n) => n as usize,
-        None => TICKS,
-    };
-    forecast.reading(line as usize, t) == ends && forecast.change(line as usize, t) == change
-}
-
-fn known_alike<'a>(job: &Job<'a>, forecast: &Forecast, line: u8) -> bool {
-    match job.known(line) {
-        Ok(t) => t as usize == forecast.known(line as usize),
-        Err(fault) => line as usize >= forecast.lines && fault.number() == 2,
-    }
-}
-
-// Whether the job is as the reference has it, in all that may be asked of it.
-pub fn jobs_alike<'a>(job: &Job<'a>, forecast: &Forecast) -> bool {
-    for line in 0..LINES as u8 {
-        if !known_alike(job, forecast, line) {
-            return false;
-        }
-        for t in 0..TICKS {
-            if !reads_alike(job, forecast, line, t) {
-                return false;
-            }
+    fn known_alike(&self, line: u8) -> bool {
+        let row = line as usize;
+        match self.job.known(line) {
+            Ok(t) => t as usize == self.forecast.known(row),
+            Err(NoSuchLine) => row >= self.forecast.lines,
         }
     }
-    job.tally() == forecast.tally && job.lines() == forecast.lines
-}
 
-// Makes the entry on both, and tells whether it is accepted.
-pub fn enter_both<'a>(
-    job: &mut Job<'a>,
-    forecast: &mut Forecast,
-    entry: Entry,
-) -> Result<bool, Mismatch> {
-    let answer = forecast.enter(entry);
-    let found = enter(job, entry);
-    all_right(&[
-        (found == answer, Mismatch::Answer),
-        (jobs_alike(job, forecast), Mismatch::Readings),
-    ])?;
-    Ok(answer == 0)
+    // Whether the job is as the reference has it, in all that may be asked of it.
+    pub fn alike(&self) -> bool {
+        (0..LINES as u8).all(|line| {
+            self.known_alike(line) && (0..TICKS).all(|t| self.reads_alike(line, t))
+        }) && self.job.tally() == self.forecast.tally
+            && self.job.lines() == self.forecast.lines
+    }
+
+    // Makes the entry on both, and gives their answer.
+    pub fn enter(&mut self, entry: Entry) -> Result<Result<(), EnterFault>, Mismatch> {
+        let answer = self.forecast.enter(entry);
+        let found = self
+            .job
+            .enter(entry.line, entry.from, entry.to, entry.lower, entry.upper);
+        ensure(found == answer, Mismatch::Answer)?;
+        ensure(self.alike(), Mismatch::Readings)?;
+        Ok(answer)
+    }
 }

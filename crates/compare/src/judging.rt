@@ -1,145 +1,85 @@
 // Judging, held against the reference.
-use crate::cells::{Held, Measured, begin_alike, blank_from, blanks, ends_of, holds, written};
-use crate::mismatch::{Mismatch, all_right};
+use crate::cells::{Measured, begin_alike, blank_from, blanks, ends_of, hold, written};
+use crate::lists::row_list;
+use crate::mismatch::{Mismatch, ensure};
+use crate::question::Question;
 use grades::range::Range;
-use jobs::job::Job;
 use pieces::piece::Piece;
 use reference::ends::Ends;
-use reference::forecast::TICKS;
 use reference::values::Values;
 use rules::row::Row;
-use rules::rule::Rule;
-use std::alloc::Global;
 use judge::fault::JudgeFault;
 use judge::judging::judge;
 
 // Cells enough for the row lists of each rule that comes.
 pub const ROW_CELLS: usize = 2048;
 
-// The number of the refusal; 0 for a judgement.
-pub fn judge_number<G: Measured>(answer: Result<Range<G>, JudgeFault>) -> u8 {
-    match answer {
-        Ok(_) => 0,
-        Err(fault) => fault.number(),
-    }
-}
-
-// How many cells the row lists of the reference take, if the cells begin with these lists.
-pub fn row_lists<G: Measured>(
-    cells: &[Piece<Range<G>>],
-    rows: usize,
-    values: &Values,
-) -> Option<usize> {
-    let mut used = 0usize;
-    for k in 0..rows {
-        for t in 0..TICKS {
-            let ends = values.at(k, t);
-            if t == 0 || ends != values.at(k, t - 1) {
-                let start = t as u32;
-                if !holds(cells, used, Held { start, ends }) {
-                    return None;
-                }
-                used = used.saturating_add(1);
-            }
-        }
-    }
-    Some(used)
-}
-
-// Judges with so many cells, where the whole lists take `used`: short cells hold their beginning.
-pub fn judge_in<'a, G: Measured>(
-    heap: Global,
-    job: &Job<'a>,
-    rule: &Rule,
-    tick: u32,
-    whole: &[Piece<Range<G>>],
-    used: usize,
-    room: usize,
-) -> Result<(), Mismatch> {
-    let mut cells = blanks::<Piece<Range<G>>>(heap, room)?;
-    let answer = judge_number(judge::<G>(job, rule, tick, cells.as_mut_slice()));
-    let right = if room < used { 9 } else { 0 };
-    all_right(&[
-        (answer == right, Mismatch::Refusal),
-        (
-            begin_alike(cells.as_slice(), whole, used.min(room)),
-            Mismatch::Beginning,
-        ),
-        (blank_from(cells.as_slice(), used), Mismatch::Behind),
-    ])
-}
-
-// Holds what was judged with room to spare against the reference, and judges with just enough cells and with one less.
-fn compare_rows<'a, G: Measured>(
-    heap: Global,
-    job: &Job<'a>,
-    rule: &Rule,
-    tick: u32,
-    values: &Values,
-    cells: &[Piece<Range<G>>],
-    verdict: Ends,
-) -> Result<(), Mismatch> {
-    let rows = rule.rows().len();
-    let used = written(cells);
-    let right = values.at(rows.wrapping_sub(1), tick as usize);
-    all_right(&[
-        (verdict == right, Mismatch::Verdict),
-        (
-            row_lists(cells, rows, values) == Some(used),
-            Mismatch::RowLists,
-        ),
-        (blank_from(cells, used), Mismatch::Behind),
-    ])?;
-    judge_in(heap, job, rule, tick, cells, used, used)?;
-    judge_in(heap, job, rule, tick, cells, used, used.saturating_sub(1))
-}
-
-// The verdict, where all that is judged is as the reference has it.
-pub fn check_judge<'a, G: Measured>(
-    heap: Global,
-    job: &Job<'a>,
-    rule: &Rule,
-    tick: u32,
-    values: &Values,
-) -> Result<Ends, Mismatch> {
-    let mut cells = blanks::<Piece<Range<G>>>(heap, ROW_CELLS)?;
-    let Ok(range) = judge::<G>(job, rule, tick, cells.as_mut_slice()) else {
-        return Err(Mismatch::Refusal);
-    };
-    let verdict = ends_of(range);
-    compare_rows(heap, job, rule, tick, values, cells.as_slice(), verdict)?;
-    Ok(verdict)
-}
-
 fn tests_from(row: Row, lines: usize) -> bool {
-    match row {
-        Row::Test { line, .. } => line as usize >= lines,
-        _ => false,
-    }
+    matches!(row, Row::Test { line, .. } if line as usize >= lines)
 }
 
-// The refusal that a rule and a tick deserve whatever the cells: 7, 8, or 0 for none.
-pub fn bar(rule: &Rule, lines: usize, tick: u32) -> u8 {
-    for row in rule.rows() {
-        if tests_from(*row, lines) {
-            return 7;
+impl Question<'_, '_> {
+    pub(crate) fn judge<G: Measured>(
+        &self,
+        cells: &mut [Piece<Range<G>>],
+    ) -> Result<Range<G>, JudgeFault> {
+        judge::<G>(self.job, self.rule, self.tick, cells)
+    }
+
+    // Judges with so many cells, where these are the whole lists: short cells hold their beginning.
+    pub fn judge_in<G: Measured>(
+        &self,
+        whole: &[Piece<Range<G>>],
+        room: usize,
+    ) -> Result<(), Mismatch> {
+        let used = whole.len();
+        let mut cells = blanks::<Piece<Range<G>>>(self.heap, room)?;
+        let answer = self.judge::<G>(cells.as_mut_slice());
+        let refusal = (room < used).then_some(JudgeFault::RowCells);
+        let cells = cells.as_slice();
+        ensure(answer.err() == refusal, Mismatch::Refusal)?;
+        ensure(
+            begin_alike(cells, whole, used.min(room)),
+            Mismatch::Beginning,
+        )?;
+        ensure(blank_from(cells, used), Mismatch::Behind)
+    }
+
+    // The verdict, where all that is judged with room to spare, with just enough cells and with one less is as the reference has it.
+    pub fn check_judge<G: Measured>(&self, values: &Values) -> Result<Ends, Mismatch> {
+        let mut cells = blanks::<Piece<Range<G>>>(self.heap, ROW_CELLS)?;
+        let Ok(range) = self.judge::<G>(cells.as_mut_slice()) else {
+            return Err(Mismatch::Refusal);
+        };
+        let verdict = ends_of(range);
+        let cells = cells.as_slice();
+        let whole = written(cells);
+        let used = whole.len();
+        let list = row_list(self.heap, self.rule.rows().len(), values)?;
+        ensure(verdict == self.verdict(values), Mismatch::Verdict)?;
+        ensure(hold(cells, used, list.as_slice()), Mismatch::RowLists)?;
+        ensure(blank_from(cells, used), Mismatch::Behind)?;
+        self.judge_in(whole, used)?;
+        self.judge_in(whole, used.saturating_sub(1))?;
+        Ok(verdict)
+    }
+
+    // Why a job of so many lines turns the question down whatever the cells, if it does.
+    pub fn bar(&self, lines: usize) -> Option<JudgeFault> {
+        if self.rule.rows().iter().any(|row| tests_from(*row, lines)) {
+            Some(JudgeFault::NoSuchLine)
+        } else if self.tick > 500_000_000 {
+            Some(JudgeFault::LateTick)
+        } else {
+            None
         }
     }
-    if tick > 500_000_000 { 8 } else { 0 }
-}
 
-// A judgement that is turned down for another cause than the cells leaves them as they were.
-pub fn check_bar<'a, G: Measured>(
-    heap: Global,
-    job: &Job<'a>,
-    rule: &Rule,
-    tick: u32,
-    number: u8,
-) -> Result<(), Mismatch> {
-    let mut cells = blanks::<Piece<Range<G>>>(heap, 8)?;
-    let answer = judge_number(judge::<G>(job, rule, tick, cells.as_mut_slice()));
-    all_right(&[
-        (answer == number, Mismatch::Refusal),
-        (blank_from(cells.as_slice(), 0), Mismatch::Behind),
-    ])
+    // A judgement that is turned down for another cause than the cells leaves them as they were.
+    pub fn check_bar<G: Measured>(&self, fault: JudgeFault) -> Result<(), Mismatch> {
+        let mut cells = blanks::<Piece<Range<G>>>(self.heap, 8)?;
+        let answer = self.judge::<G>(cells.as_mut_slice());
+        ensure(answer.err() == Some(fault), Mismatch::Refusal)?;
+        ensure(blank_from(cells.as_slice(), 0), Mismatch::Behind)
+    }
 }

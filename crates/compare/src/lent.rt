@@ -1,12 +1,11 @@
 // The cells that are lent to a marking.
 use crate::cells::{Measured, begin_alike, blank_from, blanks, written};
+use crate::question::Question;
 use grades::range::Range;
-use jobs::job::Job;
 use meaning::mark::Mark;
 use pieces::piece::Piece;
-use rules::rule::Rule;
 use std::alloc::{AllocError, Global};
-use judge::fault::MarkFault;
+use judge::fault::{JudgeFault, MarkFault};
 use judge::marking::{Marking, mark};
 
 // How many cells of each kind.
@@ -18,42 +17,55 @@ pub struct Room {
 }
 
 impl Room {
-    // Which refusal comes where the lists take `used`: the row lists go first, then the wants, then the marks. 0 for none.
-    pub fn refusal(self, used: Room) -> u8 {
+    // Which refusal comes where the lists take `used`, if one does: the row lists go first, then the wants, then the marks.
+    pub fn refusal(self, used: Room) -> Option<MarkFault> {
         if self.rows < used.rows {
-            9
+            Some(MarkFault::Judging(JudgeFault::RowCells))
         } else if self.wants < used.wants {
-            10
+            Some(MarkFault::WantCells)
         } else if self.marks < used.marks {
-            11
+            Some(MarkFault::MarkCells)
         } else {
-            0
+            None
         }
     }
 
-    // One cell less of one kind: of the row lists, the want lists, the marks, or of none.
-    pub fn short_of(self, kind: u8) -> Room {
-        Room {
-            rows: self.rows.saturating_sub((kind == 0) as usize),
-            wants: self.wants.saturating_sub((kind == 1) as usize),
-            marks: self.marks.saturating_sub((kind == 2) as usize),
-        }
-    }
-
-    // How much is then written.
-    pub fn filled(self, used: Room) -> Room {
-        let refusal = self.refusal(used);
-        Room {
-            rows: used.rows.min(self.rows),
-            wants: if refusal == 9 {
-                0
-            } else {
-                used.wants.min(self.wants)
+    // One cell less of each kind in turn, and at last just these.
+    pub fn tight(self) -> [Room; 4] {
+        [
+            Room {
+                rows: self.rows.saturating_sub(1),
+                ..self
             },
-            marks: if refusal == 9 || refusal == 10 {
-                0
-            } else {
-                used.marks.min(self.marks)
+            Room {
+                wants: self.wants.saturating_sub(1),
+                ..self
+            },
+            Room {
+                marks: self.marks.saturating_sub(1),
+                ..self
+            },
+            self,
+        ]
+    }
+
+    // How much is written where the lists take `used`: nothing behind the list that is short.
+    pub fn filled(self, used: Room) -> Room {
+        match self.refusal(used) {
+            None => used,
+            Some(MarkFault::MarkCells) => Room {
+                marks: self.marks,
+                ..used
+            },
+            Some(MarkFault::WantCells) => Room {
+                rows: used.rows,
+                wants: self.wants,
+                marks: 0,
+            },
+            Some(MarkFault::Judging(_)) => Room {
+                rows: self.rows,
+                wants: 0,
+                marks: 0,
             },
         }
     }
@@ -74,16 +86,11 @@ impl<G: Measured> Lent<G> {
         Ok(Lent { rows, wants, marks })
     }
 
-    pub fn mark<'a>(
-        &mut self,
-        job: &Job<'a>,
-        rule: &Rule,
-        tick: u32,
-    ) -> Result<Marking<G>, MarkFault> {
+    pub fn mark(&mut self, question: &Question<'_, '_>) -> Result<Marking<G>, MarkFault> {
         mark::<G>(
-            job,
-            rule,
-            tick,
+            question.job,
+            question.rule,
+            question.tick,
             self.rows.as_mut_slice(),
             self.wants.as_mut_slice(),
             self.marks.as_mut_slice(),
@@ -93,9 +100,9 @@ impl<G: Measured> Lent<G> {
     // How much was written of blank cells.
     pub fn used(&self) -> Room {
         Room {
-            rows: written(self.rows.as_slice()),
-            wants: written(self.wants.as_slice()),
-            marks: written(self.marks.as_slice()),
+            rows: written(self.rows.as_slice()).len(),
+            wants: written(self.wants.as_slice()).len(),
+            marks: written(self.marks.as_slice()).len(),
         }
     }
 

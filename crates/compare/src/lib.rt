@@ -5,5 +5,7 @@ pub mod cells;
 pub mod entries;
 pub mod judging;
 pub mod lent;
+mod lists;
 pub mod marking;
 pub mod mismatch;
+pub mod question;

@@ -1,4 +1,6 @@
 // What a trial found to disagree.
+ghost use Rattle.std.specs.Prelude.{◌≡◌, true, false, MatchResult};
+
 use std::alloc::AllocError;
 
 #[derive(Clone, Copy, Debug)]
@@ -35,12 +37,9 @@ impl From<AllocError> for Mismatch {
     }
 }
 
-// The first mismatch of a case that is not right.
-pub fn all_right(cases: &[(bool, Mismatch)]) -> Result<(), Mismatch> {
-    for case in cases {
-        if !case.0 {
-            return Err(case.1);
-        }
-    }
-    Ok(())
+// Nothing where the case is right, or else its mismatch.
+pub fn ensure(right: bool, mismatch: Mismatch) -> Result<(), Mismatch>
+    ensures { MatchResult result (λ u. right ≡ true) (λ m. (right ≡ false) × (m ≡ mismatch)) }
+{
+    if right { Ok(()) } else { Err(mismatch) }
 }

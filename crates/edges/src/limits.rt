@@ -1,21 +1,25 @@
 // Rules, ticks and cells at the edges of their limits, on one job.
 use crate::report::Report;
-use compare::cells::{Cell, Measured};
-use compare::entries::{enter_both, jobs_alike};
-use compare::judging::{check_judge, judge_in, judge_number};
+use cases::field::Entry;
+use compare::cells::{Cell, Measured, written};
+use compare::entries::Pair;
 use compare::lent::{Lent, Room};
-use compare::marking::{AMPLE, Whole, check_mark, mark_in, mark_number};
-use compare::mismatch::Mismatch;
+use compare::marking::{AMPLE, Whole};
+use compare::mismatch::{Mismatch, ensure};
+use compare::question::Question;
 use grades::margin::Margin;
 use grades::truth::Truth;
 use jobs::job::Job;
 use meaning::reading::Reading;
 use pieces::piece::Piece;
-use reference::forecast::{Entry, Forecast};
+use reference::forecast::Forecast;
 use reference::values::Values;
+use rules::fault::RuleFault;
 use rules::rule::Rule;
-use std::alloc::{AllocError, Global};
+use std::alloc::Global;
 use std::io;
+use judge::fault::MarkFault::Judging;
+use judge::fault::{JudgeFault, MarkFault};
 use judge::judging::judge;
 
 // The job has the lines a and b alone.
@@ -54,112 +58,156 @@ static ENTRIES: [Entry; 4] = [
     },
 ];
 
-// A text, and the number of its refusal; 0 if it is read.
-struct Text(&'static str, u8);
+// A text, and why it is no rule, if it is none.
+struct Text {
+    rule: &'static str,
+    fault: Option<RuleFault>,
+}
 
 static TEXTS: [Text; 9] = [
-    Text("!!!!!!!!!!!!!!!!a>=1", 0),
-    Text("!!!!!!!!!!!!!!!!!a>=1", 17),
-    Text("G[0,500000000]a>=1", 0),
-    Text("G[500000000,500000000]a>=1", 0),
-    Text("G[0,500000001]a>=1", 16),
-    Text("F[0,1]G[0,500000000]a>=1", 19),
-    Text("G[0,250000000]F[0,250000000]a>=1", 0),
-    Text("(a>=1U[0,1]G[0,499999999]b>=2)", 0),
-    Text("(a>=1U[0,1]G[0,500000000]b>=2)", 19),
+    Text {
+        rule: "!!!!!!!!!!!!!!!!a>=1",
+        fault: None,
+    },
+    Text {
+        rule: "!!!!!!!!!!!!!!!!!a>=1",
+        fault: Some(RuleFault::TooDeep { at: 16 }),
+    },
+    Text {
+        rule: "G[0,500000000]a>=1",
+        fault: None,
+    },
+    Text {
+        rule: "G[500000000,500000000]a>=1",
+        fault: None,
+    },
+    Text {
+        rule: "G[0,500000001]a>=1",
+        fault: Some(RuleFault::OutOfBounds { at: 2 }),
+    },
+    Text {
+        rule: "F[0,1]G[0,500000000]a>=1",
+        fault: Some(RuleFault::TooFar),
+    },
+    Text {
+        rule: "G[0,250000000]F[0,250000000]a>=1",
+        fault: None,
+    },
+    Text {
+        rule: "(a>=1U[0,1]G[0,499999999]b>=2)",
+        fault: None,
+    },
+    Text {
+        rule: "(a>=1U[0,1]G[0,500000000]b>=2)",
+        fault: Some(RuleFault::TooFar),
+    },
 ];
 
-pub(crate) fn check_texts(rt: &HostRuntime, report: &mut Report) -> io::Result<()> {
+// Prints the number of each refusal; 0 if the text is read.
+pub(crate) fn check_texts(report: &mut Report<'_>) -> io::Result<()> {
     for text in &TEXTS {
-        let number = match Rule::read(text.0.as_bytes(), &NAMES) {
-            Ok(_) => 0,
-            Err(fault) => fault.number(),
-        };
-        report.note(rt, text.0, number, number == text.1)?;
+        let fault = Rule::read(text.rule.as_bytes(), &NAMES).err();
+        let number = fault.map_or(0, RuleFault::number);
+        report.note(text.rule, number, fault == text.fault)?;
     }
     Ok(())
 }
 
+fn read_rule(text: &str) -> Result<Rule, Mismatch> {
+    Rule::read(text.as_bytes(), &NAMES).map_err(|_| Mismatch::Rule)
+}
+
 // A rule and a tick that are judged and marked with every number of cells up to enough.
-struct Asked(&'static str, u32);
+struct Asked {
+    rule: &'static str,
+    tick: u32,
+}
 
 static ASKED: [Asked; 8] = [
-    Asked("G[0,3](b<=0|a>=1)", 0),
-    Asked("(a>=0U[0,3]b>=1)", 0),
-    Asked("((a>=0U[1,5]!b>=20)U[0,4]F[1,2](a<=1&b<=3))", 1),
-    Asked("!!!!!!!!!!!!!!!!a>=1", 1),
-    Asked("G[0,500000000]a>=0", 500_000_000),
-    Asked("(a>=0U[2,500000000]b<=5)", 500_000_000),
-    Asked("F[0,250000000]G[0,250000000](a>=0&b>=3)", 3),
-    Asked("a>=-500000", 0),
+    Asked {
+        rule: "G[0,3](b<=0|a>=1)",
+        tick: 0,
+    },
+    Asked {
+        rule: "(a>=0U[0,3]b>=1)",
+        tick: 0,
+    },
+    Asked {
+        rule: "((a>=0U[1,5]!b>=20)U[0,4]F[1,2](a<=1&b<=3))",
+        tick: 1,
+    },
+    Asked {
+        rule: "!!!!!!!!!!!!!!!!a>=1",
+        tick: 1,
+    },
+    Asked {
+        rule: "G[0,500000000]a>=0",
+        tick: 500_000_000,
+    },
+    Asked {
+        rule: "(a>=0U[2,500000000]b<=5)",
+        tick: 500_000_000,
+    },
+    Asked {
+        rule: "F[0,250000000]G[0,250000000](a>=0&b>=3)",
+        tick: 3,
+    },
+    Asked {
+        rule: "a>=-500000",
+        tick: 0,
+    },
 ];
 
 // Judges and marks with 0 cells up to more than enough, of each kind alone; gives how many the whole lists take.
-fn try_rooms<'a, G: Measured>(
-    heap: Global,
-    job: &Job<'a>,
-    rule: &Rule,
-    tick: u32,
-    whole: &Whole<G>,
-) -> Result<Room, Mismatch> {
+fn try_rooms<G: Measured>(question: Question<'_, '_>, whole: &Whole<G>) -> Result<Room, Mismatch> {
     let used = whole.used;
-    let lent = &whole.lent;
+    let rows = written(whole.lent.rows.as_slice());
     let most = used.rows.max(used.wants).max(used.marks);
     for k in 0..most.saturating_add(2) {
-        judge_in(heap, job, rule, tick, lent.rows.as_slice(), used.rows, k)?;
-        mark_in(heap, job, rule, tick, lent, used, Room { rows: k, ..used })?;
-        mark_in(heap, job, rule, tick, lent, used, Room { wants: k, ..used })?;
-        mark_in(heap, job, rule, tick, lent, used, Room { marks: k, ..used })?;
+        question.judge_in(rows, k)?;
+        question.mark_in(whole, Room { rows: k, ..used })?;
+        question.mark_in(whole, Room { wants: k, ..used })?;
+        question.mark_in(whole, Room { marks: k, ..used })?;
     }
     Ok(used)
 }
 
-// The cells that the whole lists take, if all agrees.
-fn ask_rule<'a, G: Measured>(
-    heap: Global,
-    job: &Job<'a>,
-    forecast: &Forecast,
-    rule: &Rule,
-    tick: u32,
-) -> Result<Room, Mismatch> {
-    let values = Values::of(rule.rows(), forecast, G::scale());
-    check_judge::<G>(heap, job, rule, tick, &values)?;
-    let whole = check_mark::<G>(heap, job, rule, tick, &values)?;
-    try_rooms(heap, job, rule, tick, &whole)
-}
-
 impl Asked {
-    fn ask<'a, G: Measured>(
-        &self,
-        heap: Global,
-        job: &Job<'a>,
-        forecast: &Forecast,
-    ) -> Result<Room, Mismatch> {
-        match Rule::read(self.0.as_bytes(), &NAMES) {
-            Ok(rule) => ask_rule::<G>(heap, job, forecast, &rule, self.1),
-            Err(_) => Err(Mismatch::Rule),
-        }
+    // The cells that the whole lists take, if all agrees.
+    fn ask<G: Measured>(&self, heap: Global, pair: &Pair<'_>) -> Result<Room, Mismatch> {
+        let rule = read_rule(self.rule)?;
+        let question = Question {
+            heap,
+            job: &pair.job,
+            rule: &rule,
+            tick: self.tick,
+        };
+        let values = Values::of::<G::Scale>(rule.rows(), &pair.forecast);
+        question.check_judge::<G>(&values)?;
+        let whole = question.check_mark::<G>(&values)?;
+        try_rooms(question, &whole)
     }
 }
 
-fn check_asked<'a>(
-    rt: &HostRuntime,
-    report: &mut Report,
-    job: &Job<'a>,
-    forecast: &Forecast,
-) -> io::Result<()> {
+fn check_asked(report: &mut Report<'_>, pair: &Pair<'_>) -> io::Result<()> {
     for asked in &ASKED {
-        let used = asked.ask::<Truth>(rt.alloc(), job, forecast);
-        report.note(rt, asked.0, used, used.is_ok())?;
-        let used = asked.ask::<Margin>(rt.alloc(), job, forecast);
-        report.note(rt, asked.0, used, used.is_ok())?;
+        let used = asked.ask::<Truth>(report.rt.alloc(), pair);
+        report.note(asked.rule, used, used.is_ok())?;
+        let used = asked.ask::<Margin>(report.rt.alloc(), pair);
+        report.note(asked.rule, used, used.is_ok())?;
     }
-    let alike = jobs_alike(job, forecast);
-    report.note(rt, "the job is as it was", alike, alike)
+    let alike = pair.alike();
+    report.note("the job is as it was", alike, alike)
 }
 
-// What the case is about, a rule, a tick, the cells lent, and the number of the refusal to mark; 0 if there is none.
-struct Refusal(&'static str, &'static str, u32, Room, u8);
+// What the case is about, a rule, a tick, the cells lent, and why it is not marked, if it is not.
+struct Refusal {
+    about: &'static str,
+    rule: &'static str,
+    tick: u32,
+    room: Room,
+    fault: Option<MarkFault>,
+}
 
 const NONE: Room = Room {
     rows: 0,
@@ -168,149 +216,215 @@ const NONE: Room = Room {
 };
 
 static REFUSALS: [Refusal; 17] = [
-    Refusal("the last line", "b>=0", 0, AMPLE, 0),
-    Refusal("the line behind it", "c>=0", 0, AMPLE, 7),
-    Refusal("the sixteenth line", "p>=0", 0, AMPLE, 7),
-    Refusal("no such line on the right", "a>=0&c>=0", 0, AMPLE, 7),
-    Refusal("no such line on the left", "c>=0&a>=0", 0, AMPLE, 7),
-    Refusal(
-        "no such line far below",
-        "!G[0,3](a>=0U[0,1]c>=0)",
-        0,
-        AMPLE,
-        7,
-    ),
-    Refusal(
-        "line goes before tick and cells",
-        "c>=0",
-        500_000_001,
-        NONE,
-        7,
-    ),
-    Refusal("the last tick", "a>=0", 500_000_000, AMPLE, 0),
-    Refusal("the tick behind it", "a>=0", 500_000_001, AMPLE, 8),
-    Refusal("the greatest tick", "a>=0", u32::MAX, AMPLE, 8),
-    Refusal("tick goes before cells", "a>=0", 500_000_001, NONE, 8),
-    Refusal("no cells", "a>=0", 0, NONE, 9),
-    Refusal(
-        "no row cells",
-        "a>=0",
-        0,
-        Room {
+    Refusal {
+        about: "the last line",
+        rule: "b>=0",
+        tick: 0,
+        room: AMPLE,
+        fault: None,
+    },
+    Refusal {
+        about: "the line behind it",
+        rule: "c>=0",
+        tick: 0,
+        room: AMPLE,
+        fault: Some(Judging(JudgeFault::NoSuchLine)),
+    },
+    Refusal {
+        about: "the sixteenth line",
+        rule: "p>=0",
+        tick: 0,
+        room: AMPLE,
+        fault: Some(Judging(JudgeFault::NoSuchLine)),
+    },
+    Refusal {
+        about: "no such line on the right",
+        rule: "a>=0&c>=0",
+        tick: 0,
+        room: AMPLE,
+        fault: Some(Judging(JudgeFault::NoSuchLine)),
+    },
+    Refusal {
+        about: "no such line on the left",
+        rule: "c>=0&a>=0",
+        tick: 0,
+        room: AMPLE,
+        fault: Some(Judging(JudgeFault::NoSuchLine)),
+    },
+    Refusal {
+        about: "no such line far below",
+        rule: "!G[0,3](a>=0U[0,1]c>=0)",
+        tick: 0,
+        room: AMPLE,
+        fault: Some(Judging(JudgeFault::NoSuchLine)),
+    },
+    Refusal {
+        about: "line goes before tick and cells",
+        rule: "c>=0",
+        tick: 500_000_001,
+        room: NONE,
+        fault: Some(Judging(JudgeFault::NoSuchLine)),
+    },
+    Refusal {
+        about: "the last tick",
+        rule: "a>=0",
+        tick: 500_000_000,
+        room: AMPLE,
+        fault: None,
+    },
+    Refusal {
+        about: "the tick behind it",
+        rule: "a>=0",
+        tick: 500_000_001,
+        room: AMPLE,
+        fault: Some(Judging(JudgeFault::LateTick)),
+    },
+    Refusal {
+        about: "the greatest tick",
+        rule: "a>=0",
+        tick: u32::MAX,
+        room: AMPLE,
+        fault: Some(Judging(JudgeFault::LateTick)),
+    },
+    Refusal {
+        about: "tick goes before cells",
+        rule: "a>=0",
+        tick: 500_000_001,
+        room: NONE,
+        fault: Some(Judging(JudgeFault::LateTick)),
+    },
+    Refusal {
+        about: "no cells",
+        rule: "a>=0",
+        tick: 0,
+        room: NONE,
+        fault: Some(Judging(JudgeFault::RowCells)),
+    },
+    Refusal {
+        about: "no row cells",
+        rule: "a>=0",
+        tick: 0,
+        room: Room {
             rows: 0,
             wants: 8,
             marks: 8,
         },
-        9,
-    ),
-    Refusal(
-        "no want and mark cells",
-        "a>=0",
-        0,
-        Room {
+        fault: Some(Judging(JudgeFault::RowCells)),
+    },
+    Refusal {
+        about: "no want and mark cells",
+        rule: "a>=0",
+        tick: 0,
+        room: Room {
             rows: 8,
             wants: 0,
             marks: 0,
         },
-        10,
-    ),
-    Refusal(
-        "no want cells",
-        "a>=0",
-        0,
-        Room {
+        fault: Some(MarkFault::WantCells),
+    },
+    Refusal {
+        about: "no want cells",
+        rule: "a>=0",
+        tick: 0,
+        room: Room {
             rows: 8,
             wants: 0,
             marks: 8,
         },
-        10,
-    ),
-    Refusal(
-        "no mark cells",
-        "a>=0",
-        0,
-        Room {
+        fault: Some(MarkFault::WantCells),
+    },
+    Refusal {
+        about: "no mark cells",
+        rule: "a>=0",
+        tick: 0,
+        room: Room {
             rows: 8,
             wants: 8,
             marks: 0,
         },
-        11,
-    ),
-    Refusal(
-        "cells enough",
-        "a>=0",
-        0,
-        Room {
+        fault: Some(MarkFault::MarkCells),
+    },
+    Refusal {
+        about: "cells enough",
+        rule: "a>=0",
+        tick: 0,
+        room: Room {
             rows: 8,
             wants: 8,
             marks: 8,
         },
-        0,
-    ),
+        fault: None,
+    },
 ];
 
-// Whether marking, and judging with the same row cells, are turned down with the number; cells are as they were if it is not for want of cells.
-fn turned_down<'a, G: Measured>(
-    heap: Global,
-    job: &Job<'a>,
-    rule: &Rule,
-    tick: u32,
-    room: Room,
-    number: u8,
-) -> Result<bool, AllocError> {
-    let mut lent = Lent::<G>::blank(heap, room)?;
-    let barred = number == 7 || number == 8;
-    let judged = judge_number(judge::<G>(job, rule, tick, lent.rows.as_mut_slice()));
-    let kept = !barred || lent.blank_behind(NONE);
-    let marked = mark_number(lent.mark(job, rule, tick));
-    let kept_again = !barred || lent.blank_behind(NONE);
-    let judge_due = if number > 9 { 0 } else { number };
-    Ok(kept && kept_again && judged == judge_due && marked == number)
-}
-
 impl Refusal {
-    // Whether the number comes as it should.
-    fn comes<'a, G: Measured>(&self, heap: Global, job: &Job<'a>) -> bool {
-        match Rule::read(self.1.as_bytes(), &NAMES) {
-            Ok(rule) => match turned_down::<G>(heap, job, &rule, self.2, self.3, self.4) {
-                Ok(right) => right,
-                Err(_) => false,
-            },
-            Err(_) => false,
+    // Why it is not judged with the same row cells, if it is not.
+    fn judge_fault(&self) -> Option<JudgeFault> {
+        match self.fault {
+            Some(Judging(fault)) => Some(fault),
+            _ => None,
         }
+    }
+
+    // Cells are as they were if the refusal is not for want of cells.
+    fn check_kept<G: Measured>(&self, lent: &Lent<G>) -> Result<(), Mismatch> {
+        match self.judge_fault() {
+            Some(JudgeFault::NoSuchLine | JudgeFault::LateTick) => {
+                ensure(lent.blank_behind(NONE), Mismatch::Behind)
+            }
+            _ => Ok(()),
+        }
+    }
+
+    // Judges and marks, and compares how that is turned down.
+    fn check<G: Measured>(&self, heap: Global, job: &Job<'_>) -> Result<(), Mismatch> {
+        let rule = read_rule(self.rule)?;
+        let question = Question {
+            heap,
+            job,
+            rule: &rule,
+            tick: self.tick,
+        };
+        let mut lent = Lent::<G>::blank(heap, self.room)?;
+        let judged = judge::<G>(job, &rule, self.tick, lent.rows.as_mut_slice());
+        ensure(judged.err() == self.judge_fault(), Mismatch::Refusal)?;
+        self.check_kept(&lent)?;
+        let marked = lent.mark(&question);
+        ensure(marked.err() == self.fault, Mismatch::Refusal)?;
+        self.check_kept(&lent)
     }
 }
 
-fn check_refusals<'a>(rt: &HostRuntime, report: &mut Report, job: &Job<'a>) -> io::Result<()> {
+// Prints the number of each refusal; 0 if there is none.
+fn check_refusals(report: &mut Report<'_>, job: &Job<'_>) -> io::Result<()> {
     for refusal in &REFUSALS {
-        let truth = refusal.comes::<Truth>(rt.alloc(), job);
-        let margin = refusal.comes::<Margin>(rt.alloc(), job);
-        report.note(rt, refusal.0, refusal.4, truth && margin)?;
+        let truth = refusal.check::<Truth>(report.rt.alloc(), job);
+        let margin = refusal.check::<Margin>(report.rt.alloc(), job);
+        let number = refusal.fault.map_or(0, MarkFault::number);
+        report.note(refusal.about, number, truth.is_ok() && margin.is_ok())?;
     }
     Ok(())
 }
 
-// Whether the entries are made as the reference makes them.
-fn enter_all<'a>(job: &mut Job<'a>, forecast: &mut Forecast) -> bool {
-    for entry in &ENTRIES {
-        match enter_both(job, forecast, *entry) {
-            Ok(true) => {}
-            _ => return false,
-        }
-    }
-    true
+// Whether all entries are accepted, and made as the reference makes them.
+fn enter_all(pair: &mut Pair<'_>) -> bool {
+    ENTRIES
+        .iter()
+        .all(|entry| matches!(pair.enter(*entry), Ok(Ok(()))))
 }
 
 // Asks an open job, and asks again once it is sealed.
-pub(crate) fn check_limits(rt: &HostRuntime, report: &mut Report) -> io::Result<()> {
+pub(crate) fn check_limits(report: &mut Report<'_>) -> io::Result<()> {
     let mut cells = [<Piece<Reading> as Cell>::blank(); 128];
-    let mut job = Job::open(2, &mut cells);
-    let mut forecast = Forecast::new(2);
-    let entered = enter_all(&mut job, &mut forecast);
-    report.note(rt, "entries", entered, entered)?;
-    check_refusals(rt, report, &job)?;
-    check_asked(rt, report, &job, &forecast)?;
-    job.seal();
-    forecast.sealed = true;
-    check_asked(rt, report, &job, &forecast)
+    let mut pair = Pair {
+        job: Job::open(2, &mut cells),
+        forecast: Forecast::new(2),
+    };
+    let entered = enter_all(&mut pair);
+    report.note("entries", entered, entered)?;
+    check_refusals(report, &pair.job)?;
+    check_asked(report, &pair)?;
+    pair.job.seal();
+    pair.forecast.sealed = true;
+    check_asked(report, &pair)
 }

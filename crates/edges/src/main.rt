@@ -11,11 +11,15 @@ use report::Report;
 use std::io;
 
 fn main(rt: HostRuntime) -> io::Result<()> {
-    let mut report = Report { cases: 0, wrong: 0 };
-    check_openings(&rt, &mut report)?;
-    check_calls(&rt, &mut report)?;
-    check_texts(&rt, &mut report)?;
-    check_limits(&rt, &mut report)?;
+    let mut report = Report {
+        rt: &rt,
+        cases: 0,
+        wrong: 0,
+    };
+    check_openings(&mut report)?;
+    check_calls(&mut report)?;
+    check_texts(&mut report)?;
+    check_limits(&mut report)?;
     let cases = report.cases;
     let wrong = report.wrong;
     println!(rt; "{cases} cases, {wrong} wrong")

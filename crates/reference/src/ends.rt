@@ -1,33 +1,43 @@
 // Ranges of grades as plain numbers.
+use cases::field::Entry;
 
-// Which grades the numbers stand for: 0 and 1 for false and true, or margins.
-#[derive(Clone, Copy, PartialEq, Eq)]
-pub enum Scale {
-    Truth,
-    Margin,
+// A kind of grades as numbers.
+pub trait Scale {
+    const LOWEST: i32;
+
+    // The grade of a gap.
+    fn grade(gap: i32) -> i32;
+
+    fn opposite(grade: i32) -> i32;
 }
 
-impl Scale {
-    // The grade of a gap.
-    pub fn grade(self, gap: i32) -> i32 {
-        match self {
-            Scale::Truth => (gap >= 0) as i32,
-            Scale::Margin => gap,
-        }
+// 0 and 1 for false and true.
+pub struct Truths;
+
+impl Scale for Truths {
+    const LOWEST: i32 = 0;
+
+    fn grade(gap: i32) -> i32 {
+        (gap >= 0) as i32
     }
 
-    pub fn opposite(self, grade: i32) -> i32 {
-        match self {
-            Scale::Truth => 1i32.wrapping_sub(grade),
-            Scale::Margin => 0i32.wrapping_sub(grade),
-        }
+    fn opposite(grade: i32) -> i32 {
+        1i32.wrapping_sub(grade)
+    }
+}
+
+// The gaps themselves.
+pub struct Margins;
+
+impl Scale for Margins {
+    const LOWEST: i32 = -1_000_000;
+
+    fn grade(gap: i32) -> i32 {
+        gap
     }
 
-    pub fn lowest(self) -> i32 {
-        match self {
-            Scale::Truth => 0,
-            Scale::Margin => -1_000_000,
-        }
+    fn opposite(grade: i32) -> i32 {
+        0i32.wrapping_sub(grade)
     }
 }
 
@@ -36,6 +46,16 @@ impl Scale {
 pub struct Ends {
     pub lower: i32,
     pub upper: i32,
+}
+
+// The ends of an entry's reading.
+impl From<Entry> for Ends {
+    fn from(entry: Entry) -> Ends {
+        Ends {
+            lower: entry.lower,
+            upper: entry.upper,
+        }
+    }
 }
 
 impl Ends {
@@ -55,10 +75,10 @@ impl Ends {
         }
     }
 
-    pub fn opposite(self, scale: Scale) -> Ends {
+    pub fn opposite<S: Scale>(self) -> Ends {
         Ends {
-            lower: scale.opposite(self.upper),
-            upper: scale.opposite(self.lower),
+            lower: S::opposite(self.upper),
+            upper: S::opposite(self.lower),
         }
     }
 

@@ -5,8 +5,7 @@ use rules::row::Row;
 
 // Whether the row is a test that is wanted at t and not settled there.
 pub fn marked(rows: &[Row], values: &Values, wants: &Wants, row: usize, t: usize) -> bool {
-    match rows.get(row) {
-        Some(Row::Test { .. }) => wants.at(row, t) && !values.at(row, t).settled(),
-        _ => false,
-    }
+    matches!(rows.get(row), Some(Row::Test { .. }))
+        && wants.at(row, t)
+        && !values.at(row, t).settled()
 }

@@ -1,104 +1,95 @@
 // At which ticks each row is wanted.
 use crate::ends::Scale;
-use crate::values::{Values, ahead};
+use crate::values::{ROWS, Values, ahead};
 use rules::row::Row;
+use std::ops::Range;
 
 // The ticks that are kept: a row may be wanted at these alone.
 pub const WANT_TICKS: usize = 128;
 
-// Room for every rule: 64 rows of 128 ticks.
-const CELLS: usize = 8192;
-
 #[derive(Clone, Copy)]
 pub struct Wants {
-    cells: [bool; CELLS],
+    rows: [[bool; WANT_TICKS]; ROWS],
 }
 
-// The first tick from t to `last` at which the row can only be lowest, or the tick behind the last.
-fn first_lowest(values: &Values, row: usize, t: usize, last: usize, lowest: i32) -> usize {
-    for u in t..last.saturating_add(1) {
-        if values.at(row, u).upper == lowest {
-            return u;
-        }
-    }
-    last.saturating_add(1)
-}
-
-// The tick behind the last one in first..end at which the row can be more than lowest; 0 if there is none.
-fn last_above(values: &Values, row: usize, first: usize, end: usize, lowest: i32) -> usize {
-    let mut found = 0;
-    for u in first..end {
-        if values.at(row, u).upper != lowest {
-            found = u.saturating_add(1);
-        }
-    }
-    found
+// Whether the row can only be lowest at t.
+fn only_lowest<S: Scale>(values: &Values, row: usize, t: usize) -> bool {
+    values.at(row, t).upper == S::LOWEST
 }
 
 impl Wants {
     pub fn at(&self, row: usize, t: usize) -> bool {
-        let cell = row.wrapping_mul(WANT_TICKS).wrapping_add(t);
-        if t < WANT_TICKS && cell < CELLS {
-            self.cells[cell]
-        } else {
-            false
+        match self.rows.get(row) {
+            Some(wants) => t < WANT_TICKS && wants[t],
+            None => false,
         }
     }
 
-    // Wants the row at the ticks first..end.
-    fn want(&mut self, row: usize, first: usize, end: usize) {
-        for t in first..end.min(WANT_TICKS) {
-            let cell = row.wrapping_mul(WANT_TICKS).wrapping_add(t);
-            if cell < CELLS {
-                self.cells[cell] = true;
-            }
+    // Wants the row at those of the ticks that are kept.
+    fn want(&mut self, row: usize, ticks: Range<usize>) {
+        let kept = ticks.start..ticks.end.min(WANT_TICKS);
+        if let Some(wants) = self.rows.get_mut(row)
+            && let Some(wants) = wants.get_mut(kept)
+        {
+            wants.fill(true);
+        }
+    }
+
+    // Wants left of an until up to the last tick of the window at which right can be more than lowest, and right up to the first at which left can only be lowest.
+    fn spread_until<S: Scale>(
+        &mut self,
+        values: &Values,
+        left: usize,
+        right: usize,
+        t: usize,
+        window: Range<usize>,
+    ) {
+        let end = (t..window.end)
+            .find(|u| only_lowest::<S>(values, left, *u))
+            .unwrap_or(window.end);
+        self.want(right, window.start..end);
+        let last = (window.start..end)
+            .rev()
+            .find(|u| !only_lowest::<S>(values, right, *u));
+        if let Some(last) = last {
+            self.want(left, t..last.saturating_add(1));
         }
     }
 
     // What a row that is wanted at t, and not settled there, wants of its children.
-    fn spread(&mut self, row: Row, values: &Values, lowest: i32, t: usize) {
+    fn spread<S: Scale>(&mut self, row: Row, values: &Values, t: usize) {
         let now = t.saturating_add(1);
         match row {
             Row::Test { .. } => {}
-            Row::Not { child } => self.want(child, t, now),
-            Row::And { left, right } => {
-                self.want(left, t, now);
-                self.want(right, t, now);
+            Row::Not { child } => self.want(child, t..now),
+            Row::And { left, right } | Row::Or { left, right } => {
+                self.want(left, t..now);
+                self.want(right, t..now);
             }
-            Row::Or { left, right } => {
-                self.want(left, t, now);
-                self.want(right, t, now);
-            }
-            Row::Eventually { from, to, child } => {
-                self.want(child, ahead(t, from), ahead(now, to));
-            }
-            Row::Always { from, to, child } => {
-                self.want(child, ahead(t, from), ahead(now, to));
+            Row::Eventually { from, to, child } | Row::Always { from, to, child } => {
+                self.want(child, ahead(t, from)..ahead(now, to));
             }
             Row::Until {
                 from,
                 to,
                 left,
                 right,
-            } => {
-                let end = first_lowest(values, left, t, ahead(t, to), lowest);
-                self.want(right, ahead(t, from), end);
-                let last = last_above(values, right, ahead(t, from), end, lowest);
-                self.want(left, t, last);
-            }
+            } => self.spread_until::<S>(values, left, right, t, ahead(t, from)..ahead(now, to)),
         }
     }
 
     // The wants of all rows at a tick, parents before children; for rules that look no further than the ticks that are kept.
-    pub fn of(rows: &[Row], values: &Values, scale: Scale, tick: usize) -> Wants {
+    pub fn of<S: Scale>(rows: &[Row], values: &Values, tick: usize) -> Wants {
         let mut wants = Wants {
-            cells: [false; CELLS],
+            rows: [[false; WANT_TICKS]; ROWS],
         };
-        wants.want(rows.len().wrapping_sub(1), tick, tick.saturating_add(1));
-        for k in (0..rows.len()).rev() {
+        if let Some(last) = rows.len().checked_sub(1) {
+            wants.want(last, tick..tick.saturating_add(1));
+        }
+        for (k, row) in rows.iter().enumerate().rev() {
             for t in tick..WANT_TICKS {
                 if wants.at(k, t) && !values.at(k, t).settled() {
-                    wants.spread(rows[k], values, scale.lowest(), t);
+                    wants.spread::<S>(*row, values, t);
                 }
             }
         }

@@ -1,59 +1,57 @@
 // What the random trials came to.
-use std::io;
+use std::{fmt, io};
 
-#[derive(Clone, Copy)]
-pub(crate) enum Count {
-    Rules,
-    TooFar,
-    Accepted,
-    Refused,
-    TurnedDown,
-    Verdicts,
-    Settled,
-    Marks,
-    Narrowed,
-    Untouched,
-    Exact,
-    Unable,
+#[derive(Default, Drop)]
+pub(crate) struct Count(u64);
+
+impl Count {
+    pub(crate) fn add(&mut self, more: usize) {
+        self.0 = self.0.saturating_add(more as u64);
+    }
 }
 
-static LABELS: [&'static str; 12] = [
-    "rules read",
-    "texts that look too far",
-    "entries accepted",
-    "entries refused",
-    "judgements turned down",
-    "markings",
-    "of them settled",
-    "marks",
-    "verdicts after an entry",
-    "of them before any mark was touched",
-    "settled by exact readings at all marks",
-    "that take no such readings: sealed, or too many pieces",
-];
+impl fmt::Display for Count {
+    fn fmt<W: fmt::Write>(&self, f: &mut fmt::Formatter<W>) -> fmt::Result {
+        write!(f, "{}", self.0)
+    }
+}
 
-#[derive(Drop)]
+#[derive(Default, Drop)]
 pub(crate) struct Counts {
-    numbers: [u64; 12],
+    pub(crate) rules: Count,
+    pub(crate) too_far: Count,
+    pub(crate) accepted: Count,
+    pub(crate) refused: Count,
+    pub(crate) turned_down: Count,
+    pub(crate) markings: Count,
+    pub(crate) settled: Count,
+    pub(crate) marks: Count,
+    pub(crate) narrowed: Count,
+    pub(crate) untouched: Count,
+    pub(crate) exact: Count,
+    pub(crate) unable: Count,
 }
 
 impl Counts {
-    pub(crate) fn new() -> Counts {
-        Counts { numbers: [0; 12] }
-    }
-
-    pub(crate) fn add(&mut self, count: Count, more: usize) {
-        let k = count as usize;
-        if k < 12 {
-            self.numbers[k] = self.numbers[k].saturating_add(more as u64);
-        }
-    }
-
     pub(crate) fn print(&self, rt: &HostRuntime) -> io::Result<()> {
-        for k in 0..12 {
-            let number = self.numbers[k];
-            let label = LABELS[k];
-            println!(rt; "{number} {label}")?;
+        for (count, label) in [
+            (&self.rules, "rules read"),
+            (&self.too_far, "texts that look too far"),
+            (&self.accepted, "entries accepted"),
+            (&self.refused, "entries refused"),
+            (&self.turned_down, "judgements turned down"),
+            (&self.markings, "markings"),
+            (&self.settled, "of them settled"),
+            (&self.marks, "marks"),
+            (&self.narrowed, "verdicts after an entry"),
+            (&self.untouched, "of them before any mark was touched"),
+            (&self.exact, "settled by exact readings at all marks"),
+            (
+                &self.unable,
+                "that take no such readings: sealed, or too many pieces",
+            ),
+        ] {
+            println!(rt; "{count} {label}")?;
         }
         Ok(())
     }

@@ -29,6 +29,6 @@ impl Dice {
     // One of the numbers; 0 if there is none.
     pub(crate) fn pick(&mut self, numbers: &[i32]) -> i32 {
         let k = self.below(numbers.len().min(1000) as u32) as usize;
-        if k < numbers.len() { numbers[k] } else { 0 }
+        numbers.get(k).copied().unwrap_or(0)
     }
 }

@@ -1,7 +1,8 @@
 // Random entries.
 use crate::dice::Dice;
+use cases::field::Entry;
 use reference::ends::Ends;
-use reference::forecast::{Entry, Forecast, HORIZON, LINES};
+use reference::forecast::{Forecast, HORIZON, LINES};
 
 static READINGS: [i32; 16] = [
     -500_001, -500_000, -5, -4, -3, -2, -1, 0, 0, 1, 2, 3, 4, 5, 500_000, 500_001,

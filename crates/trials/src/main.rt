@@ -11,8 +11,7 @@ mod trial;
 use counts::Counts;
 use dice::Dice;
 use std::io;
-use texts::Text;
-use trial::trial;
+use trial::Trials;
 
 // How many random rules are written.
 const TRIALS: u32 = 20_000;
@@ -21,13 +20,16 @@ const TRIALS: u32 = 20_000;
 const SEED: u64 = 88_172_645_463_325_252;
 
 fn main(rt: HostRuntime) -> io::Result<()> {
-    let mut dice = Dice { state: SEED };
-    let mut counts = Counts::new();
+    let mut trials = Trials {
+        heap: rt.alloc(),
+        dice: Dice { state: SEED },
+        counts: Counts::default(),
+    };
     for k in 0..TRIALS {
-        let mut text = Text::new();
-        if let Err(mismatch) = trial(rt.alloc(), &mut dice, &mut text, k % 4 == 0, &mut counts) {
+        let mut text = String::new(rt.alloc());
+        if let Err(mismatch) = trials.run(&mut text, k % 4 == 0) {
             println!(rt; "WRONG trial {k} {text}: {mismatch:?}")?;
         }
     }
-    counts.print(&rt)
+    trials.counts.print(&rt)
 }

@@ -1,14 +1,13 @@
 // One random trial: a rule, a job, and what is asked of them.
-use crate::counts::{Count, Counts};
+use crate::counts::Counts;
 use crate::dice::Dice;
 use crate::entries::random_entry;
-use crate::follow::{narrow, settle};
-use crate::texts::{Shape, Text};
+use crate::texts::Writer;
 use compare::cells::Measured;
-use compare::entries::enter_both;
-use compare::judging::{bar, check_bar, check_judge};
-use compare::marking::{Whole, check_mark};
-use compare::mismatch::{Mismatch, all_right};
+use compare::entries::Pair;
+use compare::marking::Whole;
+use compare::mismatch::{Mismatch, ensure};
+use compare::question::Question;
 use grades::margin::Margin;
 use grades::truth::Truth;
 use jobs::job::Job;
@@ -16,153 +15,154 @@ use meaning::reading::Reading;
 use pieces::piece::Piece;
 use reference::forecast::Forecast;
 use reference::values::Values;
+use rules::fault::RuleFault;
 use rules::rule::Rule;
 use std::alloc::Global;
 
 static NAMES: [&'static [u8]; 3] = [b"a", b"b", b"c"];
 
-// Makes some random entries, and now and then seals the job.
-fn enter_some<'a>(
-    dice: &mut Dice,
-    job: &mut Job<'a>,
-    forecast: &mut Forecast,
-    counts: &mut Counts,
-) -> Result<(), Mismatch> {
-    for _k in 0..dice.below(24) {
-        let entry = random_entry(dice, forecast);
-        let accepted = enter_both(job, forecast, entry)?;
-        counts.add(Count::Accepted, accepted as usize);
-        counts.add(Count::Refused, !accepted as usize);
-    }
-    if dice.one_in(16) {
-        job.seal();
-        forecast.sealed = true;
-    }
-    Ok(())
+// A rule that is asked at a tick, while entries go on.
+#[derive(Drop)]
+pub(crate) struct Case<'r, 'a> {
+    pub(crate) heap: Global,
+    pub(crate) pair: Pair<'a>,
+    pub(crate) rule: &'r Rule,
+    pub(crate) tick: u32,
 }
 
-// Judges and marks in one kind of grade.
-fn mark_as<'a, G: Measured>(
-    heap: Global,
-    job: &Job<'a>,
-    forecast: &Forecast,
-    rule: &Rule,
-    tick: u32,
-    counts: &mut Counts,
-) -> Result<Whole<G>, Mismatch> {
-    let values = Values::of(rule.rows(), forecast, G::scale());
-    let verdict = check_judge::<G>(heap, job, rule, tick, &values)?;
-    let whole = check_mark::<G>(heap, job, rule, tick, &values)?;
-    counts.add(Count::Verdicts, 1);
-    counts.add(Count::Settled, verdict.settled() as usize);
-    counts.add(Count::Marks, whole.used.marks);
-    Ok(whole)
-}
-
-// Marks in one kind of grade, and sees what entries then do.
-fn follow_as<'a, G: Measured>(
-    heap: Global,
-    dice: &mut Dice,
-    job: &mut Job<'a>,
-    forecast: &mut Forecast,
-    rule: &Rule,
-    tick: u32,
-    counts: &mut Counts,
-) -> Result<(), Mismatch> {
-    let whole = mark_as::<G>(heap, job, forecast, rule, tick, counts)?;
-    let last = narrow(heap, dice, job, forecast, rule, tick, &whole, counts)?;
-    settle(heap, dice, job, rule, tick, &whole, last, counts)
-}
-
-// Judges and marks in two kinds of grade, and follows the second.
-fn ask_in<'a, G: Measured, H: Measured>(
-    heap: Global,
-    dice: &mut Dice,
-    job: &mut Job<'a>,
-    forecast: &mut Forecast,
-    rule: &Rule,
-    tick: u32,
-    counts: &mut Counts,
-) -> Result<(), Mismatch> {
-    let number = bar(rule, forecast.lines, tick);
-    if number > 0 {
-        counts.add(Count::TurnedDown, 1);
-        return check_bar::<G>(heap, job, rule, tick, number);
-    }
-    mark_as::<G>(heap, job, forecast, rule, tick, counts)?;
-    follow_as::<H>(heap, dice, job, forecast, rule, tick, counts)
-}
-
-// Mostly a tick by the horizon, now and then a late one.
-fn random_tick(dice: &mut Dice) -> u32 {
-    if dice.one_in(16) {
-        500_000_003u32.saturating_sub(dice.below(6))
-    } else {
-        dice.below(52)
-    }
-}
-
-// Enters readings and asks for verdicts and marks.
-fn ask<'a>(
-    heap: Global,
-    dice: &mut Dice,
-    job: &mut Job<'a>,
-    rule: &Rule,
-    counts: &mut Counts,
-) -> Result<(), Mismatch> {
-    let mut forecast = Forecast::new(job.lines());
-    enter_some(dice, job, &mut forecast, counts)?;
-    let tick = random_tick(dice);
-    if dice.one_in(2) {
-        ask_in::<Truth, Margin>(heap, dice, job, &mut forecast, rule, tick, counts)
-    } else {
-        ask_in::<Margin, Truth>(heap, dice, job, &mut forecast, rule, tick, counts)
-    }
-}
-
-// Asks the rule on a new job.
-fn ask_rule(
-    heap: Global,
-    dice: &mut Dice,
-    lines: u32,
-    rule: &Rule,
-    counts: &mut Counts,
-) -> Result<(), Mismatch> {
-    let blank = Piece {
-        start: 9,
-        value: Reading::widest(),
-    };
-    let mut cells = [blank; 192];
-    let mut job = Job::open(lines as usize, &mut cells);
-    counts.add(Count::Rules, 1);
-    ask(heap, dice, &mut job, rule, counts)
-}
-
-// A random rule on a random job.
-pub(crate) fn trial(
-    heap: Global,
-    dice: &mut Dice,
-    text: &mut Text,
-    huge: bool,
-    counts: &mut Counts,
-) -> Result<(), Mismatch> {
-    let lines = if dice.one_in(64) {
-        0
-    } else {
-        dice.below(3).saturating_add(1)
-    };
-    let depth = dice.below(5);
-    let reach = Shape { lines, huge }.write_rule(dice, text, depth);
-    match Rule::read(text.bytes(), &NAMES) {
-        Ok(rule) => {
-            if rule.reach() as u64 != reach {
-                return Err(Mismatch::Rule);
-            }
-            ask_rule(heap, dice, lines, &rule, counts)
+impl<'a> Case<'_, 'a> {
+    pub(crate) fn question(&self) -> Question<'_, 'a> {
+        Question {
+            heap: self.heap,
+            job: &self.pair.job,
+            rule: self.rule,
+            tick: self.tick,
         }
-        Err(fault) => {
-            counts.add(Count::TooFar, 1);
-            all_right(&[(fault.number() == 19 && reach > 500_000_000, Mismatch::Rule)])
+    }
+
+    pub(crate) fn values<G: Measured>(&self) -> Values {
+        Values::of::<G::Scale>(self.rule.rows(), &self.pair.forecast)
+    }
+}
+
+#[derive(Drop)]
+pub(crate) struct Trials {
+    pub(crate) heap: Global,
+    pub(crate) dice: Dice,
+    pub(crate) counts: Counts,
+}
+
+impl Trials {
+    // Makes some random entries, and now and then seals the job.
+    fn enter_some(&mut self, pair: &mut Pair<'_>) -> Result<(), Mismatch> {
+        for _ in 0..self.dice.below(24) {
+            let entry = random_entry(&mut self.dice, &pair.forecast);
+            match pair.enter(entry)? {
+                Ok(()) => self.counts.accepted.add(1),
+                Err(_) => self.counts.refused.add(1),
+            }
+        }
+        if self.dice.one_in(16) {
+            pair.job.seal();
+            pair.forecast.sealed = true;
+        }
+        Ok(())
+    }
+
+    // Judges and marks in one kind of grade.
+    fn mark_as<G: Measured>(&mut self, case: &Case<'_, '_>) -> Result<Whole<G>, Mismatch> {
+        let values = case.values::<G>();
+        let question = case.question();
+        let verdict = question.check_judge::<G>(&values)?;
+        let whole = question.check_mark::<G>(&values)?;
+        self.counts.markings.add(1);
+        self.counts.settled.add(verdict.settled() as usize);
+        self.counts.marks.add(whole.used.marks);
+        Ok(whole)
+    }
+
+    // Marks in one kind of grade, and sees what entries then do.
+    fn follow_as<G: Measured>(&mut self, case: &mut Case<'_, '_>) -> Result<(), Mismatch> {
+        let whole = self.mark_as::<G>(case)?;
+        let last = self.narrow(case, &whole)?;
+        self.settle(case, &whole, last)
+    }
+
+    // Judges and marks in two kinds of grade, and follows the second.
+    fn ask_in<G: Measured, H: Measured>(
+        &mut self,
+        case: &mut Case<'_, '_>,
+    ) -> Result<(), Mismatch> {
+        let question = case.question();
+        if let Some(fault) = question.bar(case.pair.forecast.lines) {
+            self.counts.turned_down.add(1);
+            return question.check_bar::<G>(fault);
+        }
+        self.mark_as::<G>(case)?;
+        self.follow_as::<H>(case)
+    }
+
+    // Mostly a tick by the horizon, now and then a late one.
+    fn random_tick(&mut self) -> u32 {
+        if self.dice.one_in(16) {
+            500_000_003u32.saturating_sub(self.dice.below(6))
+        } else {
+            self.dice.below(52)
+        }
+    }
+
+    // Enters readings on a new job, and asks the rule for verdicts and marks.
+    fn ask_rule(&mut self, lines: u32, rule: &Rule) -> Result<(), Mismatch> {
+        let blank = Piece {
+            start: 9,
+            value: Reading::widest(),
+        };
+        let mut cells = [blank; 192];
+        let job = Job::open(lines as usize, &mut cells);
+        let forecast = Forecast::new(job.lines());
+        let mut pair = Pair { job, forecast };
+        self.counts.rules.add(1);
+        self.enter_some(&mut pair)?;
+        let mut case = Case {
+            heap: self.heap,
+            pair,
+            rule,
+            tick: self.random_tick(),
+        };
+        if self.dice.one_in(2) {
+            self.ask_in::<Truth, Margin>(&mut case)
+        } else {
+            self.ask_in::<Margin, Truth>(&mut case)
+        }
+    }
+
+    // Writes a random rule, and asks it on a random job.
+    pub(crate) fn run(&mut self, text: &mut String, huge: bool) -> Result<(), Mismatch> {
+        let lines = if self.dice.one_in(64) {
+            0
+        } else {
+            self.dice.below(3).saturating_add(1)
+        };
+        let depth = self.dice.below(5);
+        let mut writer = Writer {
+            dice: &mut self.dice,
+            text,
+            lines,
+            huge,
+        };
+        let reach = writer.write_rule(depth)?;
+        match Rule::read(text.as_bytes(), &NAMES) {
+            Ok(rule) => {
+                ensure(rule.reach() as u64 == reach, Mismatch::Rule)?;
+                self.ask_rule(lines, &rule)
+            }
+            Err(fault) => {
+                self.counts.too_far.add(1);
+                ensure(
+                    fault == RuleFault::TooFar && reach > 500_000_000,
+                    Mismatch::Rule,
+                )
+            }
         }
     }
 }
