@@ -7,10 +7,11 @@ use Rattle.rules.specs.declared.row.Row.{Row}
 use Rattle.rules.specs.declared.row.Row.TheVariants as row
 use Rattle.rules.specs.declared.row.Side.{Side}
 use Rattle.rules.specs.declared.table.Table.{Table}
-use Rattle.rules.specs.Grammar.{Level, window, limit, part, meet, expr, Modality, modal_token, side_token, Phrase, span, plain, minus, test, opposite, modal, brackets, until, one_part, both, one_meet, either, tokens_of}
+use Rattle.rules.specs.declared.modality.Modality.{Modality}
+use Rattle.rules.specs.Grammar.{Level, window, limit, part, meet, expr, modal_token, side_token, Phrase, span, plain, minus, test, opposite, modal, brackets, until, one_part, both, one_meet, either, tokens_of}
 use Rattle.rules.specs.Tables.{size, limit_of, line_of, modal_row, until_row, rows_of, rises}
-use Rattle.rules.specs.Readers.{Isnt, NoSide, NoNumber, NoLimit, NoStart, NoEnd, Over, Read, Stops, no_left, no_from, no_comma, no_to, no_right, no_limit, no_minus, no_start, no_side, in_test, in_not, in_window, in_modal, in_open, no_end, in_until, in_second, no_close, first_part, next_part, first_meet, next_meet, ReadAs, StopsAt, Took, Missed, ReadLimit, Holds, Grows, Pushed, Risen, Built}
-use Rattle.rules.proofs.Places.{here, at_end, at_token, from_token}
+use Rattle.rules.specs.Readers.{Isnt, NoSide, NoNumber, NoLimit, NoStart, NoEnd, Over, Read, Stops, no_left, no_from, no_comma, no_to, no_right, no_limit, no_minus, no_start, no_side, in_test, in_not, in_window, in_modal, in_open, no_end, in_until, in_second, no_close, first_part, next_part, first_meet, next_meet, ReadAs, StopsAt, Took, Missed, ReadLimit, IsAt, Holds, Grows, Pushed, Risen, Built}
+use Rattle.rules.proofs.Places.{here, at_end, at_token}
 
 abbrev add : Token → List Token → List Token
 add t v = t ∷ v
@@ -53,11 +54,11 @@ w_ok {n = n} {o = o} t u v w x =
     reads_as (span n o) (omega (arith, t.next, u.next, v.next, w.next, x.next)) x.within (t.text ∙ ap (add Left) (u.text ∙ ap (add (Number n)) (v.text ∙ ap (add Comma) (w.text ∙ ap (add (Number o)) x.text)))) tt
 
 -- limits
-pub l_end : (ts : List Token) (at : ℕ) → at ≤ length ts → length ts ≤ at → StopsAt limit ts at at
-l_end ts at le h = stops_as refl (omega arith) le (no_limit (at_end (λ r. NoLimit r) ts at h tt))
+pub l_end : (ts : List Token) (at i : ℕ) → at ≤ length ts → i ≡ at → length ts ≤ at → StopsAt limit ts at i
+l_end ts at i le same h = stops_as same (omega arith) le (no_limit (at_end (λ r. NoLimit r) ts at h tt))
 
-pub l_rest : (ts : List Token) (at : ℕ) → at < length ts → ((n : ℕ) → get_or ts at Or ≡ Number n → ⊥) → (get_or ts at Or ≡ Minus → ⊥) → StopsAt limit ts at at
-l_rest ts at lt a b = stops_as refl (omega arith) (omega arith) (no_limit (at_token (λ r. NoLimit r) ts at lt (a, b)))
+pub l_rest : (ts : List Token) (at : ℕ) (t : Token) → IsAt t ts at → ((n : ℕ) → t ≡ Number n → ⊥) → (t ≡ Minus → ⊥) → StopsAt limit ts at at
+l_rest ts at t h a b = stops_as refl (omega arith) (omega (arith, h.there)) (no_limit (at_token (λ r. NoLimit r) ts at t h (a, b)))
 
 pub l_number : (ts : List Token) (at n : ℕ) (z : ℤ) → at < length ts → get_or ts at Or ≡ Number n → z ≡ limit_of (plain n) → ReadLimit ts at (at + 1) z
 l_number ts at n z lt is h = record { phrase = plain n; read = reads_as (plain n) (omega arith) (omega arith) (here ts at (Number n) lt is) tt; is = h }
@@ -121,11 +122,11 @@ above_two {l} {k} {t0} {t1} {t2} {t3} p q op rs us root other at g last f final 
     subst (λ (v : List Row). Holds t3 v (deeper ++ (rs ++ us))) (append_assoc (old ++ rows_of n p) (rows_of (n + size p) q) z ∙ append_assoc old (rows_of n p) (rows_of (n + size p) q ++ z) ∙ ap (λ (x : ℕ). mk x other) er ∙ ap (mk ((n + size p) - 1)) eo) h4
 
 -- parts
-pub p_end : (ts : List Token) (at : ℕ) → at ≤ length ts → length ts ≤ at → StopsAt part ts at at
-p_end ts at le h = stops_as refl (omega arith) le (no_start (at_end (λ r. NoStart r) ts at h tt))
+pub p_end : (ts : List Token) (at i : ℕ) → at ≤ length ts → i ≡ at → length ts ≤ at → StopsAt part ts at i
+p_end ts at i le same h = stops_as same (omega arith) le (no_start (at_end (λ r. NoStart r) ts at h tt))
 
-pub p_rest : (ts : List Token) (at : ℕ) → at < length ts → ((o : Option ℕ) → get_or ts at Or ≡ Name o → ⊥) → (get_or ts at Or ≡ Not → ⊥) → (get_or ts at Or ≡ Eventually → ⊥) → (get_or ts at Or ≡ Always → ⊥) → (get_or ts at Or ≡ Open → ⊥) → StopsAt part ts at at
-p_rest ts at lt a b c d e = stops_as refl (omega arith) (omega arith) (no_start (at_token (λ r. NoStart r) ts at lt (a, b, c, d, e)))
+pub p_rest : (ts : List Token) (at : ℕ) (t : Token) → IsAt t ts at → ((o : Option ℕ) → t ≡ Name o → ⊥) → (t ≡ Not → ⊥) → (t ≡ Eventually → ⊥) → (t ≡ Always → ⊥) → (t ≡ Open → ⊥) → StopsAt part ts at at
+p_rest ts at t h a b c d e = stops_as refl (omega arith) (omega (arith, h.there)) (no_start (at_token (λ r. NoStart r) ts at t h (a, b, c, d, e)))
 
 pub p_side : (ts : List Token) (at i : ℕ) (o : Option ℕ) → at < length ts → get_or ts at Or ≡ Name o → Missed NoSide ts (at + 1) i → StopsAt part ts at i
 p_side ts at i o lt is m = stops_as m.same (omega arith) (omega arith) (no_side o (here ts at (Name o) lt is) m.isnt)
@@ -181,8 +182,8 @@ p_modal {t0} {t1} {t2} {t3} m w ts at j e depth root last lt is r y b push =
 pub p_open : (ts : List Token) (at i : ℕ) → at < length ts → get_or ts at Or ≡ Open → StopsAt expr ts (at + 1) i → StopsAt part ts at i
 p_open ts at i lt is x = record { on = omega (arith, x.on); within = x.within; stops = in_open (here ts at Open lt is) x.stops }
 
-pub p_no_end : (e : Phrase expr) (ts : List Token) (at j : ℕ) → at < length ts → get_or ts at Or ≡ Open → ReadAs e ts (at + 1) j → NoEnd (drop j ts) → StopsAt part ts at j
-p_no_end e ts at j lt is x h = record { on = omega (arith, x.on); within = x.within; stops = no_end (here ts at Open lt is) (as_read e x) h }
+pub p_no_end : (e : Phrase expr) (ts : List Token) (at j i : ℕ) → at < length ts → get_or ts at Or ≡ Open → ReadAs e ts (at + 1) j → i ≡ j → NoEnd (drop j ts) → StopsAt part ts at i
+p_no_end e ts at j i lt is x same h = stops_as same (omega (arith, x.on)) x.within (no_end (here ts at Open lt is) (as_read e x) h)
 
 pub p_brackets : {t0 t1 t2 : Table} (ts : List Token) (at j depth root : ℕ) → at < length ts → get_or ts at Or ≡ Open → Risen at (depth + 1) t0 t1 → Built expr ts (at + 1) (depth + 1) t1 t2 j root → j < length ts → get_or ts j Or ≡ Close → Built part ts at depth t0 t2 (j + 1) root
 p_brackets ts at j depth root lt is r b lt2 end =
@@ -270,8 +271,9 @@ end_e {before = before} b g o =
     let s = g.grows before (sofar_e b) in
     record { phrase = s.phrase; read = reads_as s.phrase (omega (arith, b.read.on, g.on)) g.within s.text o; grows = s.grows; last = g.last; few = s.few }
 
-pub over_e : (ts : List Token) (e : ℕ) → e < length ts → Over meet (drop e ts) → (get_or ts e Or ≡ Or → ⊥) → Over expr (drop e ts)
-over_e ts e lt o no_or = at_token (λ r. Over expr r) ts e lt (from_token (λ r. Over meet r) ts e lt o, no_or)
+pub over_e : (rest : List Token) → Over meet rest → Isnt Or rest → Over expr rest
+over_e [] o no_or = tt
+over_e (t ∷ rest) o no_or = (o, no_or)
 
 pub grow_e : {ts : List Token} {at depth n0 : ℕ} {old new new2 new3 : Table} {next root next2 root2 root3 : ℕ} → Grown meet expr ts at depth n0 old next root new → next < length ts → get_or ts next Or ≡ Or → Built meet ts (next + 1) depth new new2 next2 root2 → Pushed (row.Or root root2) new2 new3 root3 → Grown meet expr ts at depth n0 old next2 root3 new3
 grow_e {ts} {at} {depth} {n0} {old} {new} {new2} {new3} {next} {root} {next2} {root2} {root3} g lt is b push =
@@ -314,6 +316,10 @@ pub end_m : {ts : List Token} {at depth n0 r0 : ℕ} {before old new : Table} {n
 end_m {before = before} b g o =
     let s = g.grows before (sofar_m b) in
     record { phrase = s.phrase; read = reads_as s.phrase (omega (arith, b.read.on, g.on)) g.within s.text o; grows = s.grows; last = g.last; few = s.few }
+
+pub over_m : (rest : List Token) → Isnt And rest → Over meet rest
+over_m [] no_and = tt
+over_m (t ∷ rest) no_and = no_and
 
 pub grow_m : {ts : List Token} {at depth n0 : ℕ} {old new new2 new3 : Table} {next root next2 root2 root3 : ℕ} → Grown part meet ts at depth n0 old next root new → next < length ts → get_or ts next Or ≡ And → Built part ts (next + 1) depth new new2 next2 root2 → Pushed (row.And root root2) new2 new3 root3 → Grown part meet ts at depth n0 old next2 root3 new3
 grow_m {ts} {at} {depth} {n0} {old} {new} {new2} {new3} {next} {root} {next2} {root2} {root3} g lt is b push =

@@ -10,3 +10,4 @@ pub mod Reaches
 pub mod Checking
 pub mod Answering
 pub mod OneAnswer
+pub mod Stopping

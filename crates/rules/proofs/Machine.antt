@@ -4,7 +4,9 @@ use Rattle.tokens.specs.declared.token.Token.{Token}
 use Rattle.tokens.specs.declared.token.Token.TheVariants.{Or, And, Not, Open, Close, Left, Right, Comma, Minus, Always, Eventually, Until, AtLeast, AtMost, Name, Number}
 use Rattle.rules.specs.declared.row.Side.{Side}
 use Rattle.rules.specs.declared.row.Side.TheVariants as side
-use Rattle.rules.specs.Grammar.{Level, window, limit, part, meet, expr, Modality, eventually, always, modal_token, side_token, Phrase, span, plain, minus, test, opposite, modal, brackets, until, one_part, both, one_meet, either, tokens_of}
+use Rattle.rules.specs.declared.modality.Modality.{Modality}
+use Rattle.rules.specs.declared.modality.Modality.TheVariants as modality
+use Rattle.rules.specs.Grammar.{Level, window, limit, part, meet, expr, modal_token, side_token, Phrase, span, plain, minus, test, opposite, modal, brackets, until, one_part, both, one_meet, either, tokens_of}
 use Rattle.rules.specs.Readers.{Isnt, NoSide, NoNumber, NoLimit, NoStart, NoEnd, Over}
 
 -- what stands before a phrase in a text that is read from the left
@@ -90,8 +92,8 @@ step (want k) Left = dead
 step (want k) Right = dead
 step (want k) Comma = dead
 step (want k) Minus = dead
-step (want k) Always = win0 (modal_window k always)
-step (want k) Eventually = win0 (modal_window k eventually)
+step (want k) Always = win0 (modal_window k modality.Always)
+step (want k) Eventually = win0 (modal_window k modality.Eventually)
 step (want k) Until = dead
 step (want k) AtLeast = dead
 step (want k) AtMost = dead
@@ -304,8 +306,8 @@ side_next k n side.AtLeast = refl
 side_next k n side.AtMost = refl
 
 pub modal_next : (k : Ctx part) (m : Modality) → step (want k) (modal_token m) ≡ win0 (modal_window k m)
-modal_next k eventually = refl
-modal_next k always = refl
+modal_next k modality.Eventually = refl
+modal_next k modality.Always = refl
 
 -- every phrase is read through
 pub complete : {l : Level} (p : Phrase l) (k : Ctx l) → run (start l k) (tokens_of p) ≡ finish l p k

@@ -1,6 +1,5 @@
 -- The reaches of rows, one row after the other.
-use Rattle.std.proofs.Common.{◌≡◌, ℕ, zero, suc, ◌+◌, ◌-◌, ◌*◌, ◌<◌, ◌≤◌, List, [], ◌∷◌, ◌++◌, length, get_or, take, set, sym, refl, ap, ◌∙◌, subst, sub-one, arith, length-set}
-use Rattle.std.proofs.lemmas.List.{take_more, take_more_set, take_all, get_or-take}
+use Rattle.std.proofs.Common.{◌≡◌, ℕ, zero, suc, ◌+◌, ◌-◌, ◌*◌, ◌≤◌, List, [], ◌∷◌, ◌++◌, length, get_or, sym, refl, ap, ◌∙◌, subst, sub-one, arith, length-append}
 use Rattle.rules.specs.declared.row.Row.{Row}
 use Rattle.rules.specs.Rows.{row_reach_lem, reaches_from, reach}
 
@@ -18,28 +17,24 @@ within_more [] x m n h le lx (suc c) = omega arith
 within_more (r ∷ rs) x m n h le lx zero = omega (arith, h 0)
 within_more (r ∷ rs) x m n h le lx (suc c) = within_more rs x m n (λ d. h (suc d)) le lx c
 
--- what the loop keeps at row k
-pub record Sofar (rows : List Row) (found : List ℕ) (k : ℕ) : Type 0 where
-  pub is : take k found ≡ reaches_from [] (take k rows)
-  pub bound : Within (take k found) (k * 4294967296)
-  pub long : length found ≡ 64
+-- what the loop keeps: the reaches of the rows so far
+pub record Sofar (rows : List Row) (found : List ℕ) : Type 0 where
+  pub is : found ≡ reaches_from [] rows
+  pub many : length found ≡ length rows
+  pub bound : Within found (length rows * 4294967296)
 
-pub first : (rows : List Row) (found : List ℕ) → length found ≡ 64 → Sofar rows found 0
-first rows found long = record { is = refl; bound = λ c. omega arith; long = long }
+pub first : Sofar [] []
+first = record { is = refl; many = refl; bound = λ c. omega arith }
 
-pub again : (rows : List Row) (found : List ℕ) (k x : ℕ) (d : Row) → k < length rows → k < length found → Sofar rows found k → x ≡ row_reach_lem (take k found) (get_or rows k d) → x ≤ k * 4294967296 + 4294967296 → Sofar rows (set found k x) (k + 1)
-again rows found k x d lr lf s e le =
-    let more : take (k + 1) (set found k x) ≡ take k found ++ (x ∷ []) = take_more_set found k x lf in
-    let val : x ≡ row_reach_lem (reaches_from [] (take k rows)) (get_or rows k d) = e ∙ ap (λ (v : List ℕ). row_reach_lem v (get_or rows k d)) s.is in
+pub again : (rows : List Row) (found later : List ℕ) (r : Row) (x : ℕ) → Sofar rows found → x ≡ row_reach_lem found r → x ≤ length rows * 4294967296 + 4294967296 → later ≡ found ++ (x ∷ []) → Sofar (rows ++ (r ∷ [])) later
+again rows found later r x s e le more =
+    let long : length (rows ++ (r ∷ [])) ≡ length rows + 1 = length-append rows (r ∷ []) in
     record {
-      is = more ∙ ap (λ (v : List ℕ). v ++ (x ∷ [])) s.is ∙ ap (λ (n : ℕ). reaches_from [] (take k rows) ++ (n ∷ [])) val ∙ sym (reaches_more [] (take k rows) (get_or rows k d)) ∙ ap (reaches_from []) (sym (take_more rows k d lr));
-      bound = subst (λ (v : List ℕ). Within v ((k + 1) * 4294967296)) (sym more) (within_more (take k found) x (k * 4294967296) ((k + 1) * 4294967296) s.bound (omega arith) (omega arith));
-      long = length-set found k x ∙ s.long;
+      is = more ∙ ap (λ (v : List ℕ). v ++ (x ∷ [])) s.is ∙ ap (λ (n : ℕ). reaches_from [] rows ++ (n ∷ [])) (e ∙ ap (λ (v : List ℕ). row_reach_lem v r) s.is) ∙ sym (reaches_more [] rows r);
+      many = omega (arith, ap length more, length-append found (x ∷ []), s.many, long);
+      bound = subst (λ (v : List ℕ). Within v (length (rows ++ (r ∷ [])) * 4294967296)) (sym more) (within_more found x _ _ s.bound (omega (arith, long)) (omega (arith, long)));
     }
 
 -- after the last row
-pub done : (rows : List Row) (found : List ℕ) (k : ℕ) → 0 < length rows → length rows ≤ k → k ≤ length rows → Sofar rows found k → get_or found (length rows - 1) 0 ≡ reach rows
-done rows found k some le ge s =
-    let ek : k ≡ length rows = omega arith in
-    let lt : length rows - 1 < k = omega arith in
-    sym (get_or-take k found (length rows - 1) 0 lt) ∙ ap (λ (v : List ℕ). get_or v (length rows - 1) 0) (s.is ∙ ap (reaches_from []) (take_all k rows le)) ∙ ap (λ (n : ℕ). get_or (reaches_from [] rows) n 0) (sub-one (length rows))
+pub done : (rows : List Row) (found : List ℕ) → Sofar rows found → get_or found (length rows - 1) 0 ≡ reach rows
+done rows found s = ap (λ (v : List ℕ). get_or v (length rows - 1) 0) s.is ∙ ap (λ (n : ℕ). get_or (reaches_from [] rows) n 0) (sub-one (length rows))

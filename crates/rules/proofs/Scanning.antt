@@ -1,49 +1,22 @@
 -- What a scan over tokens finds is what the derivation's walk finds.
-use Rattle.std.proofs.Common.{◌≡◌, ℕ, ◌+◌, ◌<◌, ◌≤◌, Bool, true, false, cond, List, [], ◌∷◌, ◌++◌, length, get_or, drop, Some, None, Option, sym, refl, ap, ◌∙◌, append_assoc, arith, length-append}
+use Rattle.std.proofs.Common.{◌≡◌, ℕ, ◌+◌, Bool, true, false, cond, List, [], ◌∷◌, ◌++◌, length, Some, None, Option, sym, refl, ap, ◌∙◌, append_assoc, arith, length-append}
+use Rattle.std.specs.List.{position_from}
 use Rattle.std.specs.Option.{option_or}
 use Rattle.std.proofs.lemmas.List.{append-nil}
 use Rattle.tokens.specs.declared.token.Token.{Token}
 use Rattle.tokens.specs.declared.token.Token.TheVariants.{Or, And, Not, Open, Close, Until, Name}
 use Rattle.rules.specs.declared.row.Side.{Side}
 use Rattle.rules.specs.declared.row.Side.TheVariants as side
-use Rattle.rules.specs.Grammar.{Level, window, limit, part, meet, expr, Modality, eventually, always, modal_token, side_token, Phrase, span, plain, minus, test, opposite, modal, brackets, until, one_part, both, one_meet, either, tokens_of}
+use Rattle.rules.specs.declared.modality.Modality.{Modality}
+use Rattle.rules.specs.declared.modality.Modality.TheVariants as modality
+use Rattle.rules.specs.Grammar.{Level, window, limit, part, meet, expr, modal_token, side_token, Phrase, span, plain, minus, test, opposite, modal, brackets, until, one_part, both, one_meet, either, tokens_of}
 use Rattle.rules.specs.Checks.{first_in, any_window, unknown_test, unknown, bad_window, bad_limit, wrong_window, wrong_limit, wrong_test, wrong}
-use Rattle.rules.specs.Scans.{first_from, unknown_here, number_at, role, wrong_by, wrong_here}
-use Rattle.rules.proofs.Places.{here, at_end}
+use Rattle.rules.specs.Scans.{first_from, nameless, unknown_here, wrong_here}
 
--- one step of a scan
-pub scan_hit : (holds : List Token → Bool) (k i : ℕ) (ts : List Token) → i < length ts → holds (drop i ts) ≡ true → first_from holds k (drop i ts) ≡ Some k
-scan_hit holds k i ts lt h =
-    let e : drop i ts ≡ get_or ts i Or ∷ drop (i + 1) ts = here ts i (get_or ts i Or) lt refl in
-    ap (first_from holds k) e ∙ ap (λ (b : Bool). cond b (Some k) (first_from holds (k + 1) (drop (i + 1) ts))) (ap holds (sym e) ∙ h)
-
-pub scan_on : (holds : List Token → Bool) (k i : ℕ) (ts : List Token) → i < length ts → holds (drop i ts) ≡ false → first_from holds k (drop i ts) ≡ first_from holds (k + 1) (drop (i + 1) ts)
-scan_on holds k i ts lt h =
-    let e : drop i ts ≡ get_or ts i Or ∷ drop (i + 1) ts = here ts i (get_or ts i Or) lt refl in
-    ap (first_from holds k) e ∙ ap (λ (b : Bool). cond b (Some k) (first_from holds (k + 1) (drop (i + 1) ts))) (ap holds (sym e) ∙ h)
-
-pub scan_end : (holds : List Token → Bool) (k i : ℕ) (ts : List Token) → length ts ≤ i → first_from holds k (drop i ts) ≡ None
-scan_end holds k i ts h = at_end (λ r. first_from holds k r ≡ None) ts i h refl
-
--- what a loop over the places keeps
-pub scan_again : (holds : List Token → Bool) (k i : ℕ) (ts : List Token) → first_from holds k ts ≡ first_from holds (k + i) (drop i ts) → i < length ts → holds (drop i ts) ≡ false → first_from holds k ts ≡ first_from holds (k + (i + 1)) (drop (i + 1) ts)
-scan_again holds k i ts inv lt h = inv ∙ scan_on holds (k + i) i ts lt h ∙ ap (λ (n : ℕ). first_from holds n (drop (i + 1) ts)) (omega arith)
-
-pub scan_found : (holds : List Token → Bool) (k i j : ℕ) (ts : List Token) → first_from holds k ts ≡ first_from holds (k + i) (drop i ts) → i < length ts → holds (drop i ts) ≡ true → j ≡ k + i → Some j ≡ first_from holds k ts
-scan_found holds k i j ts inv lt h e = ap (λ (n : ℕ). Some n) e ∙ sym (inv ∙ scan_hit holds (k + i) i ts lt h)
-
-pub scan_none : (holds : List Token → Bool) (k i : ℕ) (ts : List Token) → first_from holds k ts ≡ first_from holds (k + i) (drop i ts) → length ts ≤ i → None ≡ first_from holds k ts
-scan_none holds k i ts inv le = sym (inv ∙ scan_end holds (k + i) i ts le)
-
--- what stands at a place
-pub number_there : (ts : List Token) (i : ℕ) → i < length ts → number_at (drop i ts) ≡ number_at (get_or ts i Or ∷ [])
-number_there ts i lt = ap number_at (here ts i (get_or ts i Or) lt refl)
-
-pub unknown_there : (ts : List Token) (i : ℕ) → i < length ts → unknown_here (drop i ts) ≡ unknown_here (get_or ts i Or ∷ [])
-unknown_there ts i lt = ap unknown_here (here ts i (get_or ts i Or) lt refl)
-
-pub wrong_there : (ts : List Token) (i : ℕ) → i < length ts → wrong_here (drop i ts) ≡ wrong_by (role (get_or ts i Or)) (drop (i + 1) ts)
-wrong_there ts i lt = ap wrong_here (here ts i (get_or ts i Or) lt refl)
+-- where a name stands that no line has
+pub first_nameless : (k : ℕ) (ts : List Token) → position_from nameless k ts ≡ first_from unknown_here k ts
+first_nameless k [] = refl
+first_nameless k (t ∷ r) = ap (λ (o : Option ℕ). cond (nameless t) (Some k) o) (first_nameless (k + 1) r)
 
 or_none : (o : Option ℕ) → option_or o None ≡ o
 or_none None = refl
@@ -149,8 +122,8 @@ name_test k None c v rest = ap (λ (n : ℕ). Some n) (omega arith)
 name_test k (Some line) c v rest = name_side ((k + 0) + 1) c (tokens_of v ++ rest) ∙ name_limit (((k + 0) + 1) + 1) v rest ∙ ap (λ (n : ℕ). first_from unknown_here n rest) (omega arith)
 
 name_modal : (m : Modality) (r : List Token) → unknown_here (modal_token m ∷ r) ≡ false
-name_modal eventually r = refl
-name_modal always r = refl
+name_modal modality.Eventually r = refl
+name_modal modality.Always r = refl
 
 number_window : (k : ℕ) (u : Phrase window) (rest : List Token) → first_from wrong_here (k + 1) (tokens_of u ++ rest) ≡ option_or (wrong_window k u) (first_from wrong_here ((k + length (tokens_of u)) + 1) rest)
 number_window k (span a b) rest =
@@ -174,8 +147,8 @@ number_test k o c v rest =
     ap (λ (n : ℕ). first_from wrong_here n (side_token c ∷ (tokens_of v ++ rest))) (omega arith) ∙ number_limit k c v rest ∙ ap (option_or (wrong_limit (k + 2) v)) (ap (λ (n : ℕ). first_from wrong_here ((k + n) + 1) rest) (omega arith))
 
 number_modal : (m : Modality) (r : List Token) → wrong_here (modal_token m ∷ r) ≡ false
-number_modal eventually r = refl
-number_modal always r = refl
+number_modal modality.Eventually r = refl
+number_modal modality.Always r = refl
 
 names : Scanner unknown_here 0 any_window unknown_test
 names = record {

@@ -6,7 +6,9 @@ use Rattle.std.specs.Option.{option_or}
 use Rattle.rules.specs.declared.row.Row.{Row}
 use Rattle.rules.specs.declared.row.Row.TheVariants.{Test}
 use Rattle.rules.specs.Rows.{row_at, row_fits, row_earlier, one_if, kids, uses}
-use Rattle.rules.specs.Grammar.{Level, window, limit, part, meet, expr, Modality, eventually, always, Phrase, span, plain, minus, test, opposite, modal, brackets, until, one_part, both, one_meet, either, tokens_of}
+use Rattle.rules.specs.declared.modality.Modality.{Modality}
+use Rattle.rules.specs.declared.modality.Modality.TheVariants as modality
+use Rattle.rules.specs.Grammar.{Level, window, limit, part, meet, expr, Phrase, span, plain, minus, test, opposite, modal, brackets, until, one_part, both, one_meet, either, tokens_of}
 use Rattle.rules.specs.Tables.{size, limit_of, line_of, modal_row, until_row, rows_of}
 use Rattle.rules.specs.Checks.{first_in, bad_window, bad_limit, wrong_window, wrong_limit, wrong_test}
 use Rattle.rules.proofs.Growth.{rows_long}
@@ -54,8 +56,8 @@ both_true : (a b : Bool) → a ≡ true → b ≡ true → a && b ≡ true
 both_true a b h g = ap (λ (x : Bool). x && b) h ∙ g
 
 modal_earlier : (m : Modality) (w : Phrase window) (c k : ℕ) → c < k → Earlier (modal_row m w c) k
-modal_earlier eventually (span a b) c k h = lt-ltb c k h
-modal_earlier always (span a b) c k h = lt-ltb c k h
+modal_earlier modality.Eventually (span a b) c k h = lt-ltb c k h
+modal_earlier modality.Always (span a b) c k h = lt-ltb c k h
 
 until_earlier : (w : Phrase window) (l r k : ℕ) → l < k → r < k → Earlier (until_row w l r) k
 until_earlier (span a b) l r k h g = both_true (ltb l k) (ltb r k) (lt-ltb l k h) (lt-ltb r k g)
@@ -105,8 +107,8 @@ window_fits : (k : ℕ) (a b : ℕ) → wrong_window k (span a b) ≡ None → l
 window_fits k a b h = le-leb a b (ltb-false b a (none_either (ltb b a) (ltb 500000000 b) (not_found (bad_window a b) (k + 1) h)))
 
 modal_fits : (k : ℕ) (m : Modality) (w : Phrase window) (c : ℕ) → wrong_window k w ≡ None → row_fits (modal_row m w c) ≡ true
-modal_fits k eventually (span a b) c h = window_fits k a b h
-modal_fits k always (span a b) c h = window_fits k a b h
+modal_fits k modality.Eventually (span a b) c h = window_fits k a b h
+modal_fits k modality.Always (span a b) c h = window_fits k a b h
 
 until_fits : (k : ℕ) (w : Phrase window) (l r : ℕ) → wrong_window k w ≡ None → row_fits (until_row w l r) ≡ true
 until_fits k (span a b) l r h = window_fits k a b h
@@ -204,8 +206,8 @@ tree_two xs ys b m n r sm sn k t u c =
     )
 
 modal_kids : (m : Modality) (w : Phrase window) (d c : ℕ) → kids (modal_row m w d) c ≡ one_if (eqb c d)
-modal_kids eventually (span a b) d c = refl
-modal_kids always (span a b) d c = refl
+modal_kids modality.Eventually (span a b) d c = refl
+modal_kids modality.Always (span a b) d c = refl
 
 until_kids : (w : Phrase window) (l r c : ℕ) → kids (until_row w l r) c ≡ one_if (eqb c l) + one_if (eqb c r)
 until_kids (span a b) l r c = refl

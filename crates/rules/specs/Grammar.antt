@@ -2,6 +2,8 @@
 use Rattle.std.specs.Prelude.{◌≡◌, ℕ, ◌+◌, ◌<◌, ◌≤◌, List, [], ◌∷◌, ◌++◌, length, take, Option, ◌≢◌}
 use Rattle.tokens.specs.declared.token.Token.{Token}
 use Rattle.tokens.specs.declared.token.Token.TheVariants.{Or, And, Not, Open, Close, Left, Right, Comma, Minus, Always, Eventually, Until, AtLeast, AtMost, Name, Number}
+use Rattle.rules.specs.declared.modality.Modality.{Modality}
+use Rattle.rules.specs.declared.modality.Modality.TheVariants as modality
 use Rattle.rules.specs.declared.row.Side.{Side}
 use Rattle.rules.specs.declared.row.Side.TheVariants as side
 
@@ -13,14 +15,9 @@ pub data Level : Type 0 where
   meet : Level
   expr : Level
 
--- F or G
-pub data Modality : Type 0 where
-  eventually : Modality
-  always : Modality
-
 abbrev pub modal_token : Modality → Token
-modal_token eventually = Eventually
-modal_token always = Always
+modal_token modality.Eventually = Eventually
+modal_token modality.Always = Always
 
 abbrev pub side_token : Side → Token
 side_token side.AtLeast = AtLeast

@@ -1,10 +1,11 @@
 -- What the readers have read from a token on, what they add to the table, and where they stop.
-use Rattle.std.specs.Prelude.{◌≡◌, ℕ, ◌+◌, ◌<◌, ◌≤◌, List, [], ◌∷◌, ◌++◌, length, take, drop, ℤ, Option, ◌≢◌}
+use Rattle.std.specs.Prelude.{◌≡◌, ℕ, ◌+◌, ◌<◌, ◌≤◌, List, [], ◌∷◌, ◌++◌, length, take, drop, ℤ, Option, ◌≢◌, slice_index_or}
 use Rattle.tokens.specs.declared.token.Token.{Token}
 use Rattle.tokens.specs.declared.token.Token.TheVariants.{Or, And, Not, Open, Close, Left, Right, Comma, Minus, Always, Eventually, Until, AtLeast, AtMost, Name, Number}
 use Rattle.rules.specs.declared.row.Row.{Row}
 use Rattle.rules.specs.declared.table.Table.{Table}
-use Rattle.rules.specs.Grammar.{Level, window, limit, part, meet, expr, Modality, modal_token, side_token, Phrase, tokens_of}
+use Rattle.rules.specs.declared.modality.Modality.{Modality}
+use Rattle.rules.specs.Grammar.{Level, window, limit, part, meet, expr, modal_token, side_token, Phrase, tokens_of}
 use Rattle.rules.specs.Tables.{limit_of, rows_of, rises, first_deep_lem}
 use Rattle.rules.specs.declared.row.Side.{Side}
 
@@ -87,6 +88,11 @@ pub record StopsAt (l : Level) (ts : List Token) (at i : ℕ) : Type 0 where
   pub within : i ≤ length ts
   pub stops : Stops l (drop at ts) (drop i ts)
 
+-- the token at place at is k
+pub record IsAt (k : Token) (ts : List Token) (at : ℕ) : Type 0 where
+  pub there : at < length ts
+  pub is : slice_index_or ts at Or ≡ k
+
 -- the token at place at is k, and e is the place behind it
 pub record Took (k : Token) (ts : List Token) (at e : ℕ) : Type 0 where
   pub next : e ≡ at + 1
@@ -133,6 +139,12 @@ pub record Built (l : Level) (ts : List Token) (at depth : ℕ) (before after : 
   pub last : root + 1 ≡ after.count
   -- no more rows than tokens
   pub few : after.count + at ≤ before.count + next
+
+-- a phrase may be read from place at on, at this depth: as many tokens stand before it as rows are in the table, and as tokens are around it
+pub record Ready (ts : List Token) (at depth : ℕ) (table : Table) : Type 0 where
+  pub within : at ≤ length ts
+  pub few : table.count ≤ at
+  pub shallow : depth ≤ at
 
 -- numbers have nine digits at most
 abbrev pub ShortNumbers : List Token → Type 0

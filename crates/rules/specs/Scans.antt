@@ -3,8 +3,6 @@ use Rattle.std.specs.Prelude.{ℕ, ◌+◌, Bool, true, false, cond, List, [], �
 use Rattle.tokens.specs.declared.token.Token.{Token}
 use Rattle.tokens.specs.declared.token.Token.TheVariants.{Or, And, Not, Open, Close, Left, Right, Comma, Minus, Always, Eventually, Until, AtLeast, AtMost, Name, Number}
 use Rattle.rules.specs.Checks.{bad_window, bad_limit}
-use Rattle.rules.specs.declared.checks.Role.{Role}
-use Rattle.rules.specs.declared.checks.Role.TheVariants.{Limit, Window, Other}
 
 -- the first place from k on at which the test holds of the tokens from there on
 abbrev pub first_from : (List Token → Bool) → ℕ → List Token → Option ℕ
@@ -67,31 +65,26 @@ askew None o = false
 askew (Some a) None = false
 askew (Some a) (Some b) = bad_window a b
 
--- what a token says of the number behind it
-abbrev pub role : Token → Role
-role Or = Other
-role And = Other
-role Not = Other
-role Open = Other
-role Close = Other
-role Left = Window
-role Right = Other
-role Comma = Other
-role Minus = Limit
-role Always = Other
-role Eventually = Other
-role Until = Other
-role AtLeast = Limit
-role AtMost = Limit
-role (Name x) = Other
-role (Number x) = Other
+-- the number behind this token, with which r begins, is a limit or a window's first number, and out of bounds
+abbrev pub wrong_by : Token → List Token → Bool
+wrong_by Or r = false
+wrong_by And r = false
+wrong_by Not r = false
+wrong_by Open r = false
+wrong_by Close r = false
+wrong_by Left r = askew (number_at r) (number_at (drop 2 r))
+wrong_by Right r = false
+wrong_by Comma r = false
+wrong_by Minus r = far (number_at r)
+wrong_by Always r = false
+wrong_by Eventually r = false
+wrong_by Until r = false
+wrong_by AtLeast r = far (number_at r)
+wrong_by AtMost r = far (number_at r)
+wrong_by (Name x) r = false
+wrong_by (Number x) r = false
 
-abbrev pub wrong_by : Role → List Token → Bool
-wrong_by Limit r = far (number_at r)
-wrong_by Window r = askew (number_at r) (number_at (drop 2 r))
-wrong_by Other r = false
-
--- the number behind the first token is a limit or a window's first number, and out of bounds
+-- the same of the tokens behind the first
 abbrev pub wrong_here : List Token → Bool
 wrong_here [] = false
-wrong_here (t ∷ r) = wrong_by (role t) r
+wrong_here (t ∷ r) = wrong_by t r

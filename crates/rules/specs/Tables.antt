@@ -2,7 +2,9 @@
 use Rattle.std.specs.Prelude.{ℕ, ◌+◌, ◌-◌, cond, List, [], ◌∷◌, ◌++◌, length, ℤ, pos, neg_ℤ, Some, None, Option, nat_lt}
 use Rattle.rules.specs.declared.row.Row.{Row}
 use Rattle.rules.specs.declared.row.Row.TheVariants.{Test, Not, And, Or, Eventually, Always, Until}
-use Rattle.rules.specs.Grammar.{Level, window, limit, Modality, eventually, always, Phrase, span, plain, minus, test, opposite, modal, brackets, until, one_part, both, one_meet, either, tokens_of}
+use Rattle.rules.specs.declared.modality.Modality.{Modality}
+use Rattle.rules.specs.declared.modality.Modality.TheVariants as modality
+use Rattle.rules.specs.Grammar.{Level, window, limit, Phrase, span, plain, minus, test, opposite, modal, brackets, until, one_part, both, one_meet, either, tokens_of}
 
 -- how many rows a phrase has: brackets make none
 abbrev pub size : {l : Level} → Phrase l → ℕ
@@ -29,8 +31,8 @@ line_of None = 0
 line_of (Some k) = k
 
 abbrev pub modal_row : Modality → Phrase window → ℕ → Row
-modal_row eventually (span a b) c = Eventually a b c
-modal_row always (span a b) c = Always a b c
+modal_row modality.Eventually (span a b) c = Eventually a b c
+modal_row modality.Always (span a b) c = Always a b c
 
 abbrev pub until_row : Phrase window → ℕ → ℕ → Row
 until_row (span a b) l r = Until a b l r

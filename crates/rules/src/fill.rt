@@ -45,8 +45,5 @@ impl Table {
 fn first_deep(deep: Option<usize>, at: usize, depth: usize) -> Option<usize>
     ensures { result ≡ option_or deep (if nat_lt 16 depth then Some at else None) }
 {
-    match deep {
-        None if depth > DEPTH => Some(at),
-        _ => deep,
-    }
+    deep.or((depth > DEPTH).then_some(at))
 }

@@ -5,6 +5,7 @@ mod checks;
 pub mod fault;
 mod fill;
 pub mod laws;
+mod modality;
 mod number;
 mod reach;
 mod read;

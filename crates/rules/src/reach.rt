@@ -3,11 +3,12 @@ ghost use Rattle.std.specs.Prelude.{◌≡◌, ℕ, ◌+◌, ◌*◌, ◌<◌, �
 ghost use Rattle.rules.specs.Rows.{row_reach_lem as reach_of_row, reach};
 
 use crate::row::Row;
+use arrayvec::ArrayVec;
 
 fn reach_at(done: &[u64], row: usize) -> u64
     ensures { result ≡ slice_index done.now row }
 {
-    if row < done.len() { done[row] } else { 0 }
+    done.get(row).copied().unwrap_or(0)
 }
 
 // The reach of a row, by those of the rows before it.
@@ -19,10 +20,12 @@ fn row_reach(done: &[u64], row: Row) -> u64
     match row {
         Row::Test { .. } => 0,
         Row::Not { child } => reach_at(done, child),
-        Row::And { left, right } => reach_at(done, left).max(reach_at(done, right)),
-        Row::Or { left, right } => reach_at(done, left).max(reach_at(done, right)),
-        Row::Eventually { to, child, .. } => reach_at(done, child) + to as u64,
-        Row::Always { to, child, .. } => reach_at(done, child) + to as u64,
+        Row::And { left, right } | Row::Or { left, right } => {
+            reach_at(done, left).max(reach_at(done, right))
+        }
+        Row::Eventually { to, child, .. } | Row::Always { to, child, .. } => {
+            reach_at(done, child) + to as u64
+        }
         Row::Until {
             to,
             left,
@@ -37,9 +40,10 @@ pub(crate) fn reach_of(rows: &[Row]) -> u64
     requires some { 0 < length rows.now }
     ensures { result ≡ reach rows.now }
 {
-    let mut found = [0u64; 64];
-    for k in 0..rows.len() {
-        found[k] = row_reach(&found[0..k], rows[k]);
+    let mut found: ArrayVec<u64, 64> = ArrayVec::new();
+    for row in rows {
+        let reach = row_reach(found.as_slice(), *row);
+        found.push(reach);
     }
-    found[rows.len() - 1]
+    found.as_slice()[rows.len() - 1]
 }

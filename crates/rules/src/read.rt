@@ -1,68 +1,58 @@
 // Reading a rule text.
-ghost use Rattle.std.specs.Prelude.{◌≡◌, ℕ, ◌<◌, ◌≤◌, length, MatchResult};
+ghost use Rattle.std.specs.Prelude.{◌≡◌};
 ghost use Rattle.tokens.specs.Answers.{texts};
 ghost use Rattle.rules.specs.Rows.{Sound, reach};
-ghost use Rattle.rules.specs.Grammar.{Fails, Derives, Phrase, expr};
-ghost use Rattle.rules.specs.Readers.{ShortNumbers};
+ghost use Rattle.rules.specs.Grammar.{Derives, Phrase, expr};
 ghost use Rattle.rules.specs.Texts.{table_of, answer_of, place_in, checked, Parsed, Answered, Derived};
 
 use crate::checks::{out_of_bounds, unknown_name};
 use crate::fault::RuleFault;
 use crate::reach::reach_of;
-use crate::readers::{Stop, expression};
+use crate::readers::Source;
 use crate::row::Row;
 use crate::rule::Rule;
 use crate::table::Table;
 use tokens::lexer::tokenize;
-use tokens::token::Token;
 
 // No rule has more rows, or looks further ahead.
 const ROWS: usize = 64;
 
 const REACH: u64 = 500_000_000;
 
-// The byte of a token, or the end of the text behind the last.
-fn place(places: &[usize], end: usize, token: usize) -> usize
-    ensures { result ≡ place_in places.now end token }
-{
-    if token < places.len() {
-        places[token]
-    } else {
-        end
-    }
+// Where the tokens stand in their text, and where it ends.
+#[derive(Clone, Copy)]
+struct Places<'a> {
+    places: &'a [usize],
+    end: usize,
 }
 
-// The rows and the depth of the tokens, if they are an expression.
-fn derive(tokens: &[Token]) -> Result<Table, Stop>
-    requires { ShortNumbers tokens.now }
-    ensures { MatchResult result (λ t. Derived tokens.now t) (λ f. Fails tokens.now f.at) }
-{
-    let mut table = Table::new();
-    let all = expression(tokens, 0, 0, &mut table)?;
-    if all.next < tokens.len() {
-        return Err(Stop { at: all.next });
+impl Places<'_> {
+    // The byte of a token, or the end of the text behind the last.
+    fn byte_of(&self, token: usize) -> usize
+        ensures { result ≡ place_in self.now.places.now self.now.end token }
+    {
+        self.places.get(token).copied().unwrap_or(self.end)
     }
-    Ok(table)
 }
 
 // The checks behind the grammar, each over the whole text before the next.
-fn check(tokens: &[Token], places: &[usize], end: usize, table: Table) -> Result<Rule, RuleFault>
-    requires { Derived tokens.now table }
-    ensures { (p : Phrase expr) → Derives tokens.now p → answer_of result ≡ checked (place_in places.now end) p }
+fn check(source: &Source, places: &Places, table: Table) -> Result<Rule, RuleFault>
+    requires { Derived source.now.tokens.now table }
+    ensures { (p : Phrase expr) → Derives source.now.tokens.now p → answer_of result ≡ checked (place_in places.now.places.now places.now.end) p }
 {
-    if let Some(i) = unknown_name(tokens) {
+    if let Some(token) = unknown_name(source.tokens) {
         return Err(RuleFault::UnknownName {
-            at: place(places, end, i),
+            at: places.byte_of(token),
         });
     }
-    if let Some(i) = out_of_bounds(tokens) {
+    if let Some(token) = out_of_bounds(source.tokens) {
         return Err(RuleFault::OutOfBounds {
-            at: place(places, end, i),
+            at: places.byte_of(token),
         });
     }
-    if let Some(i) = table.deep {
+    if let Some(token) = table.deep {
         return Err(RuleFault::TooDeep {
-            at: place(places, end, i),
+            at: places.byte_of(token),
         });
     }
     if table.count > ROWS {
@@ -77,14 +67,13 @@ fn check(tokens: &[Token], places: &[usize], end: usize, table: Table) -> Result
     })
 }
 
-fn of_tokens(tokens: &[Token], places: &[usize], end: usize) -> Result<Rule, RuleFault>
-    requires { ShortNumbers tokens.now }
-    ensures { Parsed tokens.now (place_in places.now end) (answer_of result) }
+fn of_tokens(source: &Source, places: &Places) -> Result<Rule, RuleFault>
+    ensures { Parsed source.now.tokens.now (place_in places.now.places.now places.now.end) (answer_of result) }
 {
-    match derive(tokens) {
-        Ok(table) => check(tokens, places, end, table),
+    match source.derive() {
+        Ok(table) => check(source, places, table),
         Err(stop) => Err(RuleFault::Grammar {
-            at: place(places, end, stop.at),
+            at: places.byte_of(stop.at),
         }),
     }
 }
@@ -94,11 +83,18 @@ impl Rule {
     pub fn read(text: &[u8], names: &[&[u8]]) -> Result<Rule, RuleFault>
         ensures { Answered (texts names.now) text.now (answer_of result) }
     {
-        if text.len() == 0 {
+        if text.is_empty() {
             return Err(RuleFault::Empty);
         }
         let tokens = tokenize(text, names)?;
-        of_tokens(tokens.tokens(), tokens.places(), text.len())
+        let source = Source {
+            tokens: tokens.tokens(),
+        };
+        let places = Places {
+            places: tokens.places(),
+            end: text.len(),
+        };
+        of_tokens(&source, &places)
     }
 
     // The rows; the last is the rule's.

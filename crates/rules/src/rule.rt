@@ -6,6 +6,7 @@ use crate::row::Row;
 
 // A table of 1 to 64 rows, the last of which is the rule's. Limits and windows are in bounds, children stand
 // in earlier rows, each row but the last is the child of exactly one row, and the reach is 500,000,000 at most.
+// An array and a count, since a rule is copied, and an array vector is not.
 #[derive(Clone, Copy)]
 pub struct Rule {
     pub(crate) rows: [Row; 64],

@@ -7,28 +7,7 @@ ghost use Rattle.std.specs.Cmp.{on_per};
 ghost use Rattle.std.specs.Cmp.Lexicographic.{pointwise, lists_per};
 ghost use Rattle.std.specs.Ordering.{on};
 
-use crate::row::Row;
 use crate::rule::Rule;
-
-fn same_row(left: Row, right: Row) -> bool
-    ensures { Decides result (left ≡ right) }
-{
-    left == right
-}
-
-fn same_rows(left: &[Row], right: &[Row]) -> bool
-    ensures { Decides result (left.now ≡ right.now) }
-{
-    if left.len() != right.len() {
-        return false;
-    }
-    for i in 0..left.len() {
-        if !same_row(left[i], right[i]) {
-            return false;
-        }
-    }
-    true
-}
 
 // Rules are the same if their rows are; nothing else of the text stays in one.
 impl PartialEq for Rule {
@@ -40,6 +19,6 @@ impl PartialEq for Rule {
         ensures answer { result ≡ on table_of (pointwise row.ghosts.eq) self.now other.now }
         ensures same { Decides result (table_of self.now ≡ table_of other.now) }
     {
-        same_rows(self.rows(), other.rows())
+        self.rows() == other.rows()
     }
 }

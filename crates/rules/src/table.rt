@@ -2,6 +2,7 @@
 use crate::row::Row;
 
 // Rows past the 64th are counted and not kept; `deep` is the first token that makes the depth 17.
+// An array and a count, as a rule takes them over.
 #[derive(Clone, Copy)]
 pub(crate) struct Table {
     pub(crate) rows: [Row; 64],

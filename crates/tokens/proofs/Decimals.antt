@@ -1,8 +1,8 @@
 -- The number that a run of digits writes.
-use Rattle.std.proofs.Common.{◌≡◌, ℕ, ◌+◌, ◌-◌, ◌*◌, ◌^◌, ◌<◌, ◌≤◌, List, [], ◌∷◌, ◌++◌, length, get_or, take, sym, ap, ◌∙◌, mul_assoc, pow-suc, arith, rules}
+use Rattle.std.proofs.Common.{◌≡◌, ℕ, ◌+◌, ◌-◌, ◌*◌, ◌^◌, ◌<◌, ◌≤◌, List, [], ◌∷◌, ◌++◌, length, get_or, take, sym, ap, subst, ◌∙◌, mul_assoc, pow-suc, arith, rules}
 use Rattle.std.specs.List.{AllByRecursion}
 use Rattle.std.proofs.lemmas.List.{take_more, length_push, length-take}
-use Rattle.std.proofs.ByRecursion.{All-take}
+use Rattle.std.proofs.ByRecursion.{All-push}
 use Rattle.std.proofs.lemmas.Str.Parse.{IsNumeralModel, numerals_by_weight, digits_value_short}
 use Rattle.tokens.specs.Words.{Digit, decimal}
 
@@ -22,6 +22,13 @@ decimal_push (x ∷ ds) d =
 pub decimal_more : (ds : List ℕ) (i : ℕ) → i < length ds → decimal (take (i + 1) ds) ≡ decimal (take i ds) * 10 + (get_or ds i 0 - 48)
 decimal_more ds i h = ap decimal (take_more ds i 0 h) ∙ decimal_push (take i ds) (get_or ds i 0)
 
--- nine digits write less than a thousand million, and so does each front of them
-pub front_below : (ds : List ℕ) (i : ℕ) → AllByRecursion Digit ds → length ds ≤ 9 → decimal (take i ds) < 1000000000
-front_below ds i all short = decimal_below (take i ds) 9 (All-take Digit i ds all) (simp length-take (omega arith))
+-- the digits so far and one more
+module _ (ds : List ℕ) (i : ℕ) (there : i < length ds) (all : AllByRecursion Digit (take i ds)) (digit : Digit (get_or ds i 0)) where
+  pub digits_more : AllByRecursion Digit (take (i + 1) ds)
+  digits_more = subst (AllByRecursion Digit) (sym (take_more ds i 0 there)) (All-push Digit _ _ all digit)
+
+  pub value_more : (v : ℕ) → v ≡ decimal (take i ds) → v * 10 + (get_or ds i 0 - 48) ≡ decimal (take (i + 1) ds)
+  value_more v is = ap (λ n. n * 10 + (get_or ds i 0 - 48)) is ∙ sym (decimal_more ds i there)
+
+  pub value_fits : (v : ℕ) → v ≡ decimal (take i ds) → length ds ≤ 19 → v * 10 + (get_or ds i 0 - 48) < 10 ^ 19
+  value_fits v is few = subst (λ n. n < 10 ^ 19) (sym (value_more v is)) (decimal_below (take (i + 1) ds) 19 digits_more (simp length-take (omega arith)))

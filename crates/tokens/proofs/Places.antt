@@ -2,7 +2,7 @@
 use Rattle.std.proofs.Common.{◌≡◌, ℕ, ◌+◌, ◌-◌, ◌<◌, ◌≤◌, List, [], ◌∷◌, ◌++◌, length, get_or, drop, Option, sym, refl, ap, ◌∙◌, subst, inl, ⊎_elim, arith}
 use mathlib.Core.List.{head-eq_of_cons-eq, tail-eq_of_cons-eq}
 use Rattle.std.specs.List.{between}
-use Rattle.std.proofs.lemmas.List.{take-append-drop, drop-drop, drop_more, length-drop}
+use Rattle.std.proofs.lemmas.List.{take-append-drop, drop-drop, drop_more, length-drop, length-take}
 use Rattle.std.proofs.lemmas.List.Edits.{between_none, between_more, length-between}
 use Rattle.std.proofs.lemmas.Bool.{cases_lt, cases_eq}
 use Rattle.tokens.specs.declared.fault.TokenFault.TheVariants.{Malformed}
@@ -19,6 +19,9 @@ pub parted : (text : List ℕ) (at end : ℕ) → at ≤ end → drop at text �
 parted text at end on =
     let far : at + (end - at) ≡ end = omega arith in
     sym (take-append-drop (end - at) (drop at text)) ∙ ap (λ r. between at end text ++ r) (drop-drop (end - at) at text ∙ ap (λ n. drop n text) far)
+
+pub run_few : (text : List ℕ) (at end n : ℕ) → end - at ≤ n → length (between at end text) ≤ n
+run_few text at end n few = simp length-take (omega arith)
 
 -- a run of P that begins with a Q is one byte long at least, and begins with a Q
 module _ (P Q : ℕ → Type 0) (within : (b : ℕ) → Q b → P b) (text : List ℕ) (at end : ℕ) (run : RunTo P text at end) (first : Begins Q (drop at text)) where

@@ -1,7 +1,7 @@
 -- Readings from the left, put together.
-use Rattle.std.proofs.Common.{◌≡◌, ℕ, ◌+◌, ◌≤◌, List, [], ◌∷◌, ◌++◌, length, drop, sym, subst, arith}
+use Rattle.std.proofs.Common.{◌≡◌, ℕ, ◌+◌, ◌≤◌, List, [], ◌∷◌, ◌++◌, length, drop, sym, subst, ap, arith}
 use Rattle.std.specs.List.{between, AllByRecursion}
-use Rattle.std.proofs.lemmas.List.{drop_all}
+use Rattle.std.proofs.lemmas.List.{drop_all, length-append}
 use Rattle.std.proofs.lemmas.List.Edits.{length-between}
 use Rattle.tokens.specs.declared.fault.TokenFault.{TokenFault}
 use Rattle.tokens.specs.declared.token.Token.{Token}
@@ -33,36 +33,36 @@ module _ (names : List (List ℕ)) (text : List ℕ) (at end : ℕ) where
       word (parted text at end (omega (arith, w.on))) w.spells w.longest (subst (λ n. Reads names n (drop end text) end (drop end text) [] []) (sym far) nothing)
 
 -- the tokens before a place at which no blank stands; each took a byte at least
-pub record SoFar (names : List (List ℕ)) (text : List ℕ) (at : ℕ) (places : List ℕ) (tokens : List Token) (count : ℕ) : Type 0 where
+pub record SoFar (names : List (List ℕ)) (text : List ℕ) (at : ℕ) (places : List ℕ) (tokens : List Token) : Type 0 where
   pub within : at ≤ length text
-  pub few : count ≤ at
+  pub few : length tokens ≤ at
   pub solid : Begins Blank (drop at text) → ⊥
   pub reads : Reads names 0 text at (drop at text) places tokens
 
 module _ {names : List (List ℕ)} {text : List ℕ} where
-  pub begun : {at count : ℕ} {places : List ℕ} {tokens : List Token} → RunTo Blank text 0 at → places ≡ [] → tokens ≡ [] → count ≡ 0 → SoFar names text at places tokens count
-  begun {at} {count} {places} {tokens} run p t zero =
+  pub begun : {at : ℕ} {places : List ℕ} {tokens : List Token} → RunTo Blank text 0 at → places ≡ [] → tokens ≡ [] → SoFar names text at places tokens
+  begun {at} {places} {tokens} run p t =
       record {
         within = run.within;
-        few = omega arith;
+        few = omega (arith, ap length t);
         solid = run.over;
         reads = subst (λ ts. Reads names 0 text at (drop at text) places ts) (sym t) (subst (λ ps. Reads names 0 text at (drop at text) ps []) (sym p) (blanks names text 0 at run));
       }
 
-  pub gone_on : {at end next : ℕ} {places places' : List ℕ} {tokens tokens' : List Token} {t : Token} {count count' : ℕ} → SoFar names text at places tokens count → WordAt names text at t end → RunTo Blank text end next → places' ≡ places ++ at ∷ [] → tokens' ≡ tokens ++ t ∷ [] → count' ≡ count + 1 → SoFar names text next places' tokens' count'
-  gone_on {at} {end} {next} {places} {places'} {tokens} {tokens'} {t} {count} far w run p e more =
+  pub gone_on : {at end next : ℕ} {places places' : List ℕ} {tokens tokens' : List Token} {t : Token} → SoFar names text at places tokens → WordAt names text at t end → RunTo Blank text end next → places' ≡ places ++ at ∷ [] → tokens' ≡ tokens ++ t ∷ [] → SoFar names text next places' tokens'
+  gone_on {at} {end} {next} {places} {places'} {tokens} {tokens'} {t} far w run p e =
       record {
         within = run.within;
-        few = omega (arith, far.few, w.on, run.on);
+        few = omega (arith, far.few, w.on, run.on, ap length e, length-append tokens (t ∷ []));
         solid = run.over;
         reads =
             subst (λ ts. Reads names 0 text next (drop next text) places' ts) (sym e) (subst (λ ps. Reads names 0 text next (drop next text) ps (tokens ++ t ∷ [])) (sym p) (reads_on far.reads (reads_on (one_word names text at end t w) (blanks names text end next run))));
       }
 
-  pub ended : {at : ℕ} {places : List ℕ} {tokens : List Token} {count : ℕ} → SoFar names text at places tokens count → length text ≤ at → Split names text places tokens
+  pub ended : {at : ℕ} {places : List ℕ} {tokens : List Token} → SoFar names text at places tokens → length text ≤ at → Split names text places tokens
   ended {at} {places} {tokens} far past =
       let whole : at ≡ length text = omega (arith, far.within) in
       subst (λ n. Reads names 0 text n [] places tokens) whole (subst (λ r. Reads names 0 text at r places tokens) (drop_all at text past) far.reads)
 
-  pub stopped : {at : ℕ} {places : List ℕ} {tokens : List Token} {count : ℕ} (fault : TokenFault) → SoFar names text at places tokens count → FaultAt names text at fault → length text ≤ 1024 → Refused names text fault
+  pub stopped : {at : ℕ} {places : List ℕ} {tokens : List Token} (fault : TokenFault) → SoFar names text at places tokens → FaultAt names text at fault → length text ≤ 1024 → Refused names text fault
   stopped {at} {places} {tokens} fault far f short = subst (Refused names text) (sym f.place) (short, record { places = places; tokens = tokens; reads = far.reads; fault = f.none })

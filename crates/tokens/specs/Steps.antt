@@ -3,17 +3,10 @@ use Rattle.std.specs.Prelude.{◌≡◌, ℕ, ◌<◌, ◌≤◌, List, length, 
 use Rattle.std.specs.List.{between, AllByRecursion}
 use Rattle.tokens.specs.declared.fault.TokenFault.{TokenFault}
 use Rattle.tokens.specs.declared.fault.TokenFault.TheVariants.{Malformed}
-use Rattle.tokens.specs.declared.lexer.Class.{Class}
 use Rattle.tokens.specs.declared.lexer.Word.{Word}
 use Rattle.tokens.specs.declared.token.Token.{Token}
-use Rattle.tokens.specs.Words.{Digit, Blank, NameByte, Begins, Spells}
+use Rattle.tokens.specs.Words.{Begins, Spells}
 use Rattle.tokens.specs.Splits.{Longest, NoToken}
-
--- the bytes of a class
-abbrev pub Of : Class → ℕ → Type 0
-Of Class.Blank = Blank
-Of Class.Digit = Digit
-Of Class.Name = NameByte
 
 -- a byte that is no token alone, and one that is none with `=` behind it
 abbrev pub NoSign : ℕ → Type 0

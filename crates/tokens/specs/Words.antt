@@ -41,6 +41,10 @@ abbrev pub decimal : List ℕ → ℕ
 decimal [] = 0
 decimal (d ∷ ds) = (d - 48) * 10 ^ length ds + decimal ds
 
+-- digits alone, and at most nineteen of them, so that what they write fits 64 bits
+abbrev pub FewDigits : List ℕ → Type 0
+FewDigits w = AllByRecursion Digit w × (length w ≤ 19)
+
 -- line k is the first that has this name; only sixteen names count
 pub record Named (names : List (List ℕ)) (w : List ℕ) (k : ℕ) : Type 0 where
   pub counts : k < 16

@@ -1,10 +1,11 @@
 // Splits a rule text into its tokens.
-ghost use Rattle.std.specs.Prelude.{◌≡◌, ℕ, ◌<◌, ◌≤◌, List, [], ◌∷◌, length, drop, Decides, MatchOption, MatchResult};
-ghost use Rattle.std.specs.List.{AllByRecursion};
-ghost use Rattle.tokens.specs.Words.{Small, Digit, Blank, Begins, decimal, LineOf, Spells};
+ghost use Rattle.std.specs.Prelude.{◌≡◌, ℕ, ◌<◌, ◌≤◌, Bool, IsTrue, List, [], ◌∷◌, length, drop, Decides, MatchOption, MatchResult};
+ghost use Rattle.std.specs.Fn.{FnReturnsAt};
+ghost use Rattle.tokens.specs.Words.{Small, Digit, Blank, NameByte, Begins, LineOf, Spells};
 ghost use Rattle.tokens.specs.Answers.{texts, Tokenized, Refused};
-ghost use Rattle.tokens.specs.Steps.{Of, RunTo, NoSign, NoOrder, ReadAt};
+ghost use Rattle.tokens.specs.Steps.{RunTo, NoSign, NoOrder, ReadAt};
 
+use super::digits::number_of;
 use super::fault::TokenFault;
 use super::list::Tokens;
 use super::token::Token;
@@ -16,15 +17,7 @@ const NAME_BYTES: usize = 8;
 
 const DIGITS: usize = 9;
 
-const NAMES: u8 = 16;
-
-// The bytes of which a run is made.
-#[derive(Clone, Copy)]
-enum Class {
-    Blank,
-    Digit,
-    Name,
-}
+const NAMES: usize = 16;
 
 // A token, and the place behind its last byte.
 #[derive(Clone, Copy)]
@@ -33,54 +26,35 @@ struct Word {
     end: usize,
 }
 
-// Whether the byte is of the class.
-fn belongs(class: Class, byte: u8) -> bool
-    ensures { Decides result (Of class byte) }
+fn is_blank(byte: &u8) -> bool
+    ensures { Decides result (Blank byte.now) }
 {
-    match class {
-        Class::Blank => byte == b' ' || byte == b'\n',
-        Class::Digit => byte >= b'0' && byte <= b'9',
-        Class::Name => byte >= b'a' && byte <= b'z' || byte >= b'0' && byte <= b'9',
-    }
+    matches!(byte, b' ' | b'\n')
 }
 
-// Where the run of such bytes ends that begins at `at`; it may be empty.
-fn run_end(text: &[u8], at: usize, class: Class) -> usize
-    requires { at ≤ length text.now }
-    ensures { RunTo (Of class) text.now at result }
+// Whether a name may go on with the byte.
+fn is_name_byte(byte: &u8) -> bool
+    ensures { Decides result (NameByte byte.now) }
 {
-    let mut end = at;
-    while end < text.len() && belongs(class, text[end]) {
-        end += 1;
-    }
-    end
+    byte.is_ascii_lowercase() || byte.is_ascii_digit()
+}
+
+// Where the run of bytes that pass the test ends that begins at `at`; it may be empty.
+fn run_end<F: Fn(&u8) -> bool>(text: &[u8], at: usize, passes: F) -> usize
+    requires within { at ≤ length text.now }
+    requires callable { F.IsAlwaysCallable passes }
+    ensures bounds { (at ≤ result) × (result ≤ length text.now) }
+    ensures run { (p : ℕ → Bool) → ((b : ℕ) (r : Bool) → FnReturnsAt F.Fn passes b r → r ≡ p b) → RunTo (λ b. IsTrue (p b)) text.now at result }
+{
+    at + text[at..].iter().take_while(|byte| passes(*byte)).count()
 }
 
 // The first line that has this name, of the first 16.
 fn line_of(names: &[&[u8]], name: &[u8]) -> Option<u8>
     ensures { LineOf (texts names.now) name.now result }
 {
-    let mut line: u8 = 0;
-    while line < NAMES && (line as usize) < names.len() {
-        if names[line as usize] == name {
-            return Some(line);
-        }
-        line += 1;
-    }
-    None
-}
-
-// The number that the digits write.
-fn value_of(digits: &[u8]) -> u32
-    requires all { AllByRecursion Digit digits.now }
-    requires short { length digits.now ≤ 9 }
-    ensures { result ≡ decimal digits.now }
-{
-    let mut value: u32 = 0;
-    for digit in digits {
-        value = value * 10 + (*digit - b'0') as u32;
-    }
-    value
+    let line = names.iter().take(NAMES).position(|known| *known == name);
+    line.map(|line| line as u8)
 }
 
 // The token that this byte is alone.
@@ -138,7 +112,7 @@ fn name_at(text: &[u8], at: usize, names: &[&[u8]]) -> Result<Word, TokenFault>
     requires letter { Begins Small (drop at text.now) }
     ensures { ReadAt (texts names.now) text.now at result }
 {
-    let end = run_end(text, at, Class::Name);
+    let end = run_end(text, at, is_name_byte);
     if end - at > NAME_BYTES {
         return Err(TokenFault::Malformed { at });
     }
@@ -159,12 +133,14 @@ fn number_at(text: &[u8], at: usize) -> Result<Word, TokenFault>
     requires digit { Begins Digit (drop at text.now) }
     ensures { (names : List (List ℕ)) → ReadAt names text.now at result }
 {
-    let end = run_end(text, at, Class::Digit);
-    if !well_formed(text[at], end - at) {
-        return Err(TokenFault::Malformed { at });
+    let end = run_end(text, at, u8::is_ascii_digit);
+    match number_of(&text[at..end]) {
+        Some(value) if well_formed(text[at], end - at) => Ok(Word {
+            token: Token::Number(value as u32),
+            end,
+        }),
+        _ => Err(TokenFault::Malformed { at }),
     }
-    let token = Token::Number(value_of(&text[at..end]));
-    Ok(Word { token, end })
 }
 
 // The word that begins at `at`, where no blank stands.
@@ -173,9 +149,9 @@ fn word_at(text: &[u8], at: usize, names: &[&[u8]]) -> Result<Word, TokenFault>
     requires solid { Begins Blank (drop at text.now) → ⊥ }
     ensures { ReadAt (texts names.now) text.now at result }
 {
-    if belongs(Class::Digit, text[at]) {
+    if text[at].is_ascii_digit() {
         number_at(text, at)
-    } else if belongs(Class::Name, text[at]) {
+    } else if text[at].is_ascii_lowercase() {
         name_at(text, at, names)
     } else {
         symbol_at(text, at)
@@ -190,11 +166,11 @@ pub fn tokenize(text: &[u8], names: &[&[u8]]) -> Result<Tokens, TokenFault>
         return Err(TokenFault::TooLong);
     }
     let mut tokens = Tokens::new();
-    let mut at = run_end(text, 0, Class::Blank);
+    let mut at = run_end(text, 0, is_blank);
     while at < text.len() {
         let word = word_at(text, at, names)?;
         tokens.push(at, word.token);
-        at = run_end(text, word.end, Class::Blank);
+        at = run_end(text, word.end, is_blank);
     }
     Ok(tokens)
 }

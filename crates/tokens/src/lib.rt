@@ -1,5 +1,6 @@
 #![tactic(auto)]
 
+pub mod digits;
 pub mod fault;
 pub mod laws;
 pub mod lexer;

@@ -1,53 +1,51 @@
 // The tokens of a text, each with its place.
-ghost use Rattle.std.specs.Prelude.{◌≡◌, ◌+◌, ◌<◌, ◌≤◌, [], ◌∷◌, ◌++◌, take};
+ghost use Rattle.std.specs.Prelude.{◌≡◌, ◌<◌, [], ◌∷◌, ◌++◌, length};
+ghost use Rattle.arrayvec.specs.ArrayVec.{ArrayVec};
 
 use super::token::Token;
+use arrayvec::ArrayVec;
 
-// A token takes a byte at least, so 1,024 bytes have no more tokens than that.
+// A token takes a byte at least, so 1,024 bytes have no more tokens than that. Each has its place at its own number.
 #[derive(Drop)]
 pub struct Tokens {
-    tokens: [Token; 1024],
-    places: [usize; 1024],
-    count: usize,
-    ghost fits: { count ≤ 1024 },
+    tokens: ArrayVec<Token, 1024>,
+    places: ArrayVec<usize, 1024>,
+    ghost paired: { length places.items ≡ length tokens.items },
 }
 
 impl Tokens {
     // No token.
     pub(crate) fn new() -> Tokens
-        ensures { result.count ≡ 0 }
+        ensures tokens { result.tokens.items ≡ [] }
+        ensures places { result.places.items ≡ [] }
     {
         Tokens {
-            tokens: [Token::Or; 1024],
-            places: [0; 1024],
-            count: 0,
+            tokens: ArrayVec::new(),
+            places: ArrayVec::new(),
         }
     }
 
     // Puts one more token behind the others.
     pub(crate) fn push(&mut self, place: usize, token: Token)
-        requires { self.old.count < 1024 }
-        ensures count { self.new.count ≡ self.old.count + 1 }
-        ensures tokens { take self.new.count self.new.tokens ≡ take self.old.count self.old.tokens ++ token ∷ [] }
-        ensures places { take self.new.count self.new.places ≡ take self.old.count self.old.places ++ place ∷ [] }
+        requires { length self.old.tokens.items < 1024 }
+        ensures tokens { self.new.tokens.items ≡ self.old.tokens.items ++ token ∷ [] }
+        ensures places { self.new.places.items ≡ self.old.places.items ++ place ∷ [] }
     {
-        let at = self.count;
-        self.tokens[at] = token;
-        self.places[at] = place;
-        self.count = at + 1;
+        self.tokens.push(token);
+        self.places.push(place);
     }
 
     // The tokens, from the left.
     pub fn tokens(&self) -> &[Token]
-        ensures { result.now ≡ take self.now.count self.now.tokens }
+        ensures { result.now ≡ self.now.tokens.items }
     {
-        &self.tokens[0..self.count]
+        self.tokens.as_slice()
     }
 
     // Where each token's first byte stands in the text.
     pub fn places(&self) -> &[usize]
-        ensures { result.now ≡ take self.now.count self.now.places }
+        ensures { result.now ≡ self.now.places.items }
     {
-        &self.places[0..self.count]
+        self.places.as_slice()
     }
 }

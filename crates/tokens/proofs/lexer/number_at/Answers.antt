@@ -1,12 +1,29 @@
+use Rattle.std.proofs.Common.{rules, refl, arith}
+use Rattle.std.specs.Char.{is_ascii_digit}
 use Rattle.std.proofs.lemmas.Bool.{both_ways}
-use Rattle.tokens.proofs.Places.{number_fault, number_word}
+use Rattle.tokens.proofs.Decimals.{decimal_below}
+use Rattle.tokens.proofs.Places.{run_few, number_fault, number_word}
+use Rattle.tokens.proofs.Runs.{digit_decides, run_of}
 use Rattle.tokens.proofs.lexer.number_at.Goals as goal
 
-pub returns-then-not-well_formed : goal.returns-then-not-well_formed
-returns-then-not-well_formed c names =
-    number_fault names _ _ _ c.run_end-end.ensures c.requires.digit c.requires.within (λ well. both_ways _ c.if-not-well_formed.true (c.well_formed-2.ensures.1 well))
+pub returns-in-Some : goal.returns-in-Some
+returns-in-Some c names =
+    let run = run_of is_ascii_digit _ digit_decides (c.run_end-end.ensures.run is_ascii_digit (λ b r k. search rules)) in
+    let well = c.if-well_formed.ensures.0 refl in
+    number_word names _ _ _ run c.requires.digit well.0 well.1 _ c.in-Some.ensures.1
 
-pub returns : goal.returns
-returns c names =
-    let well = c.well_formed-2.ensures.0 c.if-not-well_formed.false in
-    number_word names _ _ _ c.run_end-end.ensures c.requires.digit well.0 well.1 _ c.value_of.ensures
+pub overflow_cast-result : goal.overflow_cast-result
+overflow_cast-result c =
+    let written = c.in-Some.ensures in
+    let well = c.if-well_formed.ensures.0 refl in
+    omega (arith, written.1, decimal_below _ 9 written.0.0 (run_few _ _ _ _ well.0))
+
+pub returns-in_default : goal.returns-in_default
+returns-in_default c names =
+    let run = run_of is_ascii_digit _ digit_decides (c.run_end-end.ensures.run is_ascii_digit (λ b r k. search rules)) in
+    number_fault names _ _ _ run c.requires.digit c.requires.within (λ well. both_ways _ refl (c.if-well_formed.ensures.1 well))
+
+pub returns-in_default-2 : goal.returns-in_default-2
+returns-in_default-2 c names =
+    let run = run_of is_ascii_digit _ digit_decides (c.run_end-end.ensures.run is_ascii_digit (λ b r k. search rules)) in
+    number_fault names _ _ _ run c.requires.digit c.requires.within (λ well. c.in_default.ensures (run.all, omega (arith, run_few c.args.text.now _ _ _ well.0)))

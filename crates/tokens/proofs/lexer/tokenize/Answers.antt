@@ -1,18 +1,18 @@
-use Rattle.std.proofs.Common.{take, ap}
+use Rattle.std.proofs.Common.{rules}
+use Rattle.std.proofs.lemmas.Bool.Decides.{same_from_decides}
 use Rattle.std.proofs.lemmas.Result.{err_from_is_err_and}
+use Rattle.tokens.proofs.Runs.{is_blank, blank_decides, run_of}
 use Rattle.tokens.proofs.Readings.{begun, gone_on, ended, stopped}
 use Rattle.tokens.proofs.lexer.tokenize.Goals as goal
 
 pub loop-at-init : goal.loop-at-init
 loop-at-init c =
-    let new = c.new-tokens.result in
-    let none = c.new-tokens.ensures in
-    begun c.run_end-at.ensures (ap (λ n. take n new.places) none) (ap (λ n. take n new.tokens) none) none
+    begun (run_of is_blank _ blank_decides (c.run_end-at.ensures.run is_blank (λ b r k. same_from_decides r _ (search rules) (blank_decides b)))) c.new-tokens.ensures.places c.new-tokens.ensures.tokens
 
 pub loop-at-preserved : goal.loop-at-preserved
 loop-at-preserved c =
     let pushed = c.push.ensures in
-    gone_on c.loop-at.invariant c.in_ok-word.ensures c.run_end-at-in-loop-at.ensures pushed.places pushed.tokens pushed.count
+    gone_on c.loop-at.invariant c.in_ok-word.ensures (run_of is_blank _ blank_decides (c.run_end-at-in-loop-at.ensures.run is_blank (λ b r k. same_from_decides r _ (search rules) (blank_decides b)))) pushed.places pushed.tokens
 
 pub returns : goal.returns
 returns c = record { short = c.if-text-gt-TEXT_BYTES.false; split = ended c.loop-at.invariant c.loop-at-test.false }
