@@ -20,7 +20,7 @@ use Rattle.cases.specs.Steps.{Sized, Stepped}
 use Rattle.cases.proofs.OneReading.{one_opening, one_step}
 use Rattle.case_lines.specs.Lines.{refused_line, refusal_line, verdict_line, mark_lines, entry_text}
 use Rattle.case_lines.specs.Calls.{Enters}
-use Rattle.case_lines.specs.Listings.{Ticks, no_truth, no_margin, no_marks, verdict, Does, enters, ticks, Lists, ended, refused, does, too_long, no_heading, listed}
+use Rattle.case_lines.specs.Listings.{CellCounts, Ticks, no_truth, no_margin, no_marks, verdict, Does, enters, ticks, Lists, ended, refused, does, too_long, no_heading, listed}
 use Rattle.case_lines.specs.Laws.{OneListing}
 
 apart : {A : Type 0} (x : A) (n : ℕ) → ◌≡◌ {A = Result A ℕ} (Ok x) (Err n) → ⊥
@@ -77,25 +77,25 @@ same_refusal x y h = cc
 same_step : (x y : Stepped) → ◌≡◌ {A = Result (Option Stepped) CaseRefusal} (Ok (Some x)) (Ok (Some y)) → x ≡ y
 same_step x y h = cc
 
-module _ (a b w m : ℕ) (rows : List Row) where
+module _ (cells : CellCounts) (rows : List Row) where
   -- a tick prints one text
-  ticks_one : (k t : ℕ) (s : State) (v u : List ℕ) → Ticks a b w m rows k t s v → Ticks a b w m rows k t s u → v ≡ u
-  ticks_one k t s v u (no_truth xn xt xe) (no_truth yn yt ye) = xe ∙ ap (λ (i : ℕ). refused_line i k) (number xn yn (judge_one truths s rows t a (Err xn) (Err yn) xt yt)) ∙ sym ye
-  ticks_one k t s v u (no_truth xn xt xe) (no_margin yp yn yt yg ye) = absurd (apart yp xn (sym (judge_one truths s rows t a (Err xn) (Ok yp) xt yt)))
-  ticks_one k t s v u (no_truth xn xt xe) (no_marks yp yq yn yt yg ym ye) = absurd (apart yp xn (sym (judge_one truths s rows t a (Err xn) (Ok yp) xt yt)))
-  ticks_one k t s v u (no_truth xn xt xe) (verdict yp yq yx yt yg ym ye) = absurd (apart yp xn (sym (judge_one truths s rows t a (Err xn) (Ok yp) xt yt)))
-  ticks_one k t s v u (no_margin xp xn xt xg xe) (no_truth yn yt ye) = absurd (apart xp yn (judge_one truths s rows t a (Ok xp) (Err yn) xt yt))
-  ticks_one k t s v u (no_margin xp xn xt xg xe) (no_margin yp yn yt yg ye) = xe ∙ ap (λ (i : ℕ). refused_line i k) (number xn yn (judge_one margins s rows t b (Err xn) (Err yn) xg yg)) ∙ sym ye
-  ticks_one k t s v u (no_margin xp xn xt xg xe) (no_marks yp yq yn yt yg ym ye) = absurd (apart yq xn (sym (judge_one margins s rows t b (Err xn) (Ok yq) xg yg)))
-  ticks_one k t s v u (no_margin xp xn xt xg xe) (verdict yp yq yx yt yg ym ye) = absurd (apart yq xn (sym (judge_one margins s rows t b (Err xn) (Ok yq) xg yg)))
-  ticks_one k t s v u (no_marks xp xq xn xt xg xm xe) (no_truth yn yt ye) = absurd (apart xp yn (judge_one truths s rows t a (Ok xp) (Err yn) xt yt))
-  ticks_one k t s v u (no_marks xp xq xn xt xg xm xe) (no_margin yp yn yt yg ye) = absurd (apart xq yn (judge_one margins s rows t b (Ok xq) (Err yn) xg yg))
-  ticks_one k t s v u (no_marks xp xq xn xt xg xm xe) (no_marks yp yq yn yt yg ym ye) = xe ∙ ap (λ (i : ℕ). refused_line i k) (number xn yn (mark_one truths s rows t a w m (Err xn) (Err yn) xm ym)) ∙ sym ye
-  ticks_one k t s v u (no_marks xp xq xn xt xg xm xe) (verdict yp yq yx yt yg ym ye) = absurd (apart yx xn (sym (mark_one truths s rows t a w m (Err xn) (Ok yx) xm ym)))
-  ticks_one k t s v u (verdict xp xq xx xt xg xm xe) (no_truth yn yt ye) = absurd (apart xp yn (judge_one truths s rows t a (Ok xp) (Err yn) xt yt))
-  ticks_one k t s v u (verdict xp xq xx xt xg xm xe) (no_margin yp yn yt yg ye) = absurd (apart xq yn (judge_one margins s rows t b (Ok xq) (Err yn) xg yg))
-  ticks_one k t s v u (verdict xp xq xx xt xg xm xe) (no_marks yp yq yn yt yg ym ye) = absurd (apart xx yn (mark_one truths s rows t a w m (Ok xx) (Err yn) xm ym))
-  ticks_one k t s v u (verdict xp xq xx xt xg xm xe) (verdict yp yq yx yt yg ym ye) = xe ∙ told t (inner xp yp (judge_one truths s rows t a (Ok xp) (Ok yp) xt yt)) (inner xq yq (judge_one margins s rows t b (Ok xq) (Ok yq) xg yg)) (inner xx yx (mark_one truths s rows t a w m (Ok xx) (Ok yx) xm ym)) ∙ sym ye
+  ticks_one : (k t : ℕ) (s : State) (v u : List ℕ) → Ticks cells rows k t s v → Ticks cells rows k t s u → v ≡ u
+  ticks_one k t s v u (no_truth xn xt xe) (no_truth yn yt ye) = xe ∙ ap (λ (i : ℕ). refused_line i k) (number xn yn (judge_one truths s rows t cells.truth_rows (Err xn) (Err yn) xt yt)) ∙ sym ye
+  ticks_one k t s v u (no_truth xn xt xe) (no_margin yp yn yt yg ye) = absurd (apart yp xn (sym (judge_one truths s rows t cells.truth_rows (Err xn) (Ok yp) xt yt)))
+  ticks_one k t s v u (no_truth xn xt xe) (no_marks yp yq yn yt yg ym ye) = absurd (apart yp xn (sym (judge_one truths s rows t cells.truth_rows (Err xn) (Ok yp) xt yt)))
+  ticks_one k t s v u (no_truth xn xt xe) (verdict yp yq yx yt yg ym ye) = absurd (apart yp xn (sym (judge_one truths s rows t cells.truth_rows (Err xn) (Ok yp) xt yt)))
+  ticks_one k t s v u (no_margin xp xn xt xg xe) (no_truth yn yt ye) = absurd (apart xp yn (judge_one truths s rows t cells.truth_rows (Ok xp) (Err yn) xt yt))
+  ticks_one k t s v u (no_margin xp xn xt xg xe) (no_margin yp yn yt yg ye) = xe ∙ ap (λ (i : ℕ). refused_line i k) (number xn yn (judge_one margins s rows t cells.margin_rows (Err xn) (Err yn) xg yg)) ∙ sym ye
+  ticks_one k t s v u (no_margin xp xn xt xg xe) (no_marks yp yq yn yt yg ym ye) = absurd (apart yq xn (sym (judge_one margins s rows t cells.margin_rows (Err xn) (Ok yq) xg yg)))
+  ticks_one k t s v u (no_margin xp xn xt xg xe) (verdict yp yq yx yt yg ym ye) = absurd (apart yq xn (sym (judge_one margins s rows t cells.margin_rows (Err xn) (Ok yq) xg yg)))
+  ticks_one k t s v u (no_marks xp xq xn xt xg xm xe) (no_truth yn yt ye) = absurd (apart xp yn (judge_one truths s rows t cells.truth_rows (Ok xp) (Err yn) xt yt))
+  ticks_one k t s v u (no_marks xp xq xn xt xg xm xe) (no_margin yp yn yt yg ye) = absurd (apart xq yn (judge_one margins s rows t cells.margin_rows (Ok xq) (Err yn) xg yg))
+  ticks_one k t s v u (no_marks xp xq xn xt xg xm xe) (no_marks yp yq yn yt yg ym ye) = xe ∙ ap (λ (i : ℕ). refused_line i k) (number xn yn (mark_one truths s rows t cells.truth_rows cells.wants cells.marks (Err xn) (Err yn) xm ym)) ∙ sym ye
+  ticks_one k t s v u (no_marks xp xq xn xt xg xm xe) (verdict yp yq yx yt yg ym ye) = absurd (apart yx xn (sym (mark_one truths s rows t cells.truth_rows cells.wants cells.marks (Err xn) (Ok yx) xm ym)))
+  ticks_one k t s v u (verdict xp xq xx xt xg xm xe) (no_truth yn yt ye) = absurd (apart xp yn (judge_one truths s rows t cells.truth_rows (Ok xp) (Err yn) xt yt))
+  ticks_one k t s v u (verdict xp xq xx xt xg xm xe) (no_margin yp yn yt yg ye) = absurd (apart xq yn (judge_one margins s rows t cells.margin_rows (Ok xq) (Err yn) xg yg))
+  ticks_one k t s v u (verdict xp xq xx xt xg xm xe) (no_marks yp yq yn yt yg ym ye) = absurd (apart xx yn (mark_one truths s rows t cells.truth_rows cells.wants cells.marks (Ok xx) (Err yn) xm ym))
+  ticks_one k t s v u (verdict xp xq xx xt xg xm xe) (verdict yp yq yx yt yg ym ye) = xe ∙ told t (inner xp yp (judge_one truths s rows t cells.truth_rows (Ok xp) (Ok yp) xt yt)) (inner xq yq (judge_one margins s rows t cells.margin_rows (Ok xq) (Ok yq) xg yg)) (inner xx yx (mark_one truths s rows t cells.truth_rows cells.wants cells.marks (Ok xx) (Ok yx) xm ym)) ∙ sym ye
 
   enters_one : (k : ℕ) (e : Entry) (s z y : State) (v u : List ℕ) → Enters k e s z v → Enters k e s y u → (v ≡ u) × (z ≡ y)
   enters_one k e s z y v u h g =
@@ -103,14 +103,14 @@ module _ (a b w m : ℕ) (rows : List Row) where
       (h.prints ∙ ap (entry_text k) one.reply ∙ sym g.prints, one.end)
 
   -- a field does one thing
-  does_one : (k : ℕ) (i : Item) (s z y : State) (v u : List ℕ) → Does a b w m rows k i s z v → Does a b w m rows k i s y u → (v ≡ u) × (z ≡ y)
+  does_one : (k : ℕ) (i : Item) (s z y : State) (v u : List ℕ) → Does cells rows k i s z v → Does cells rows k i s y u → (v ≡ u) × (z ≡ y)
   does_one k i s z y v u (enters e p h) (enters f q g) = enters_one k e s z y v u h (subst (λ (x : Entry). Enters k x s y u) (same_entry f e (sym q ∙ p)) g)
   does_one k i s z y v u (enters e p h) (ticks t q g j) = absurd (entry_tick e t (sym p ∙ q))
   does_one k i s z y v u (ticks t p h j) (enters e q g) = absurd (entry_tick e t (sym q ∙ p))
-  does_one k i s z y v u (ticks t p h j) (ticks r q g l) = (ticks_one k t s v u h (subst (λ (x : ℕ). Ticks a b w m rows k x s u) (same_tick r t (sym q ∙ p)) g), j ∙ sym l)
+  does_one k i s z y v u (ticks t p h j) (ticks r q g l) = (ticks_one k t s v u h (subst (λ (x : ℕ). Ticks cells rows k x s u) (same_tick r t (sym q ∙ p)) g), j ∙ sym l)
 
   -- and so do the fields one after the other
-  lists_one : (n : ℕ) (s : State) (bytes v u : List ℕ) → Lists a b w m rows n s bytes v → Lists a b w m rows n s bytes u → v ≡ u
+  lists_one : (n : ℕ) (s : State) (bytes v u : List ℕ) → Lists cells rows n s bytes v → Lists cells rows n s bytes u → v ≡ u
   lists_one n s bytes v u (ended p e) (ended q f) = e ∙ sym f
   lists_one n s bytes v u (ended p e) (refused x q f) = absurd (step_apart None x (one_step n bytes (Ok None) (Err x) p q))
   lists_one n s bytes v u (ended p e) (does x q d l f) = absurd (none_some x (one_step n bytes (Ok None) (Ok (Some x)) p q))
@@ -121,8 +121,8 @@ module _ (a b w m : ℕ) (rows : List Row) where
   lists_one n s bytes v u (does x p d l e) (refused y q f) = absurd (step_apart (Some x) y (one_step n bytes (Ok (Some x)) (Err y) p q))
   lists_one n s bytes v u (does {after = z} {first = i} {more = j} x p d l e) (does {after = z'} {first = i'} {more = j'} y q d' l' f) =
       let same = same_step y x (one_step n bytes (Ok (Some y)) (Ok (Some x)) q p) in
-      let one = does_one x.field x.item s z z' i i' d (subst (λ (o : Stepped). Does a b w m rows o.field o.item s z' i') same d') in
-      let rest = lists_one x.next z x.rest j j' l (subst (λ (y : State). Lists a b w m rows x.next y x.rest j') (sym one.1) (subst (λ (o : Stepped). Lists a b w m rows o.next z' o.rest j') same l')) in
+      let one = does_one x.field x.item s z z' i i' d (subst (λ (o : Stepped). Does cells rows o.field o.item s z' i') same d') in
+      let rest = lists_one x.next z x.rest j j' l (subst (λ (y : State). Lists cells rows x.next y x.rest j') (sym one.1) (subst (λ (o : Stepped). Lists cells rows o.next z' o.rest j') same l')) in
       e ∙ (λ o. one.0 o ++ rest o) ∙ sym f
 
 sized_one : (case : List ℕ) (e : CaseRefusal) → Sized case (Ok tt) → Sized case (Err e) → ⊥
@@ -148,5 +148,5 @@ one_listing lent case v u (listed o p g l) (too_long y q f) = absurd (sized_one 
 one_listing lent case v u (listed o p g l) (no_heading y q h f) = absurd (heading_apart o y (one_opening 1 [] case (Ok o) (Err y) g h))
 one_listing lent case v u (listed o p g l) (listed i q h k) =
     let same = same_heading i o (one_opening 1 [] case (Ok i) (Ok o) h g) in
-    lists_one lent.truth_rows lent.margin_rows lent.wants lent.marks o.rows o.next (opened (line_count o.lines lent.pieces)) o.rest v u l
-    (subst (λ (x : Opened). Lists lent.truth_rows lent.margin_rows lent.wants lent.marks x.rows x.next (opened (line_count x.lines lent.pieces)) x.rest u) same k)
+    lists_one lent.cells o.rows o.next (opened (line_count o.lines lent.pieces)) o.rest v u l
+    (subst (λ (x : Opened). Lists lent.cells x.rows x.next (opened (line_count x.lines lent.pieces)) x.rest u) same k)

@@ -1,40 +1,22 @@
 -- Ticks as the listing has them.
-use Rattle.std.proofs.Common.{◌≡◌, ℕ, List, ◌++◌, length, ℤ, Ok, Err, Result, ap, ◌∙◌, subst, append_assoc}
-use Rattle.grades.specs.Ranges.{Span}
-use Rattle.grades.specs.Truths.{truths}
-use Rattle.grades.specs.Margins.{margins}
+use Rattle.std.proofs.Common.{◌≡◌, ℕ, ◌≤◌, List, ◌++◌, length, take, ℤ, Ok, Err, Result, ap, ◌∙◌, subst, append_assoc}
+use Rattle.std.proofs.lemmas.List.{length-take-le}
+use Rattle.grades.specs.Kinds.{Kind}
 use Rattle.rules.specs.declared.row.Row.{Row}
 use Rattle.meaning.specs.declared.mark.Mark.{Mark}
 use Rattle.meaning.specs.declared.outcome.Outcome.{Outcome}
-use Rattle.meaning.specs.Outcomes.{outcome_of_lem}
 use Rattle.runs.specs.States.{State}
-use Rattle.runs.specs.Calls.{JudgeTurn, Marking, MarkTurn}
-use Rattle.case_lines.specs.Lines.{refused_line, verdict_line, mark_lines}
-use Rattle.case_lines.specs.Writes.{Adds, AddsSome}
-use Rattle.case_lines.specs.Listings.{Ticks, no_truth, no_margin, no_marks, verdict}
-use Rattle.case_lines.proofs.Adding.{some}
+use Rattle.runs.specs.Calls.{Marking, MarkTurn}
+use Rattle.case_lines.specs.Lines.{verdict_line, mark_lines}
+use Rattle.case_lines.specs.Writes.{Adds}
 
-module _ (a b w m : ℕ) (rows : List Row) (k t : ℕ) (s : State) (before after : List ℕ) {E : Type 0} (r : Result (Unit {0}) E) where
-  pub truth_refused : (n v : ℕ) → v ≡ n → JudgeTurn truths s rows t a (Err n) → Adds before r (refused_line v k) after → AddsSome before r (Ticks a b w m rows k t s) after
-  truth_refused n v e turn h =
-      some (Ticks a b w m rows k t s) before after r (refused_line v k) (no_truth n turn (ap (λ (i : ℕ). refused_line i k) e)) h
+-- marking with as many row cells, counted another way
+pub recounted : (K : Kind) (s : State) (rows : List Row) (t w m : ℕ) {a b : ℕ} (r : Result (Marking K) ℕ) → a ≡ b → MarkTurn K s rows t a w m r → MarkTurn K s rows t b w m r
+recounted K s rows t w m r kept turn = subst (λ (i : ℕ). MarkTurn K s rows t i w m r) kept turn
 
-  module _ (p : Span truths.Value) (truth : JudgeTurn truths s rows t a (Ok p)) where
-    pub margin_refused : (n v : ℕ) → v ≡ n → JudgeTurn margins s rows t b (Err n) → Adds before r (refused_line v k) after → AddsSome before r (Ticks a b w m rows k t s) after
-    margin_refused n v e turn h =
-        some (Ticks a b w m rows k t s) before after r (refused_line v k) (no_margin p n truth turn (ap (λ (i : ℕ). refused_line i k) e)) h
-
-    module _ (q : Span margins.Value) (margin : JudgeTurn margins s rows t b (Ok q)) where
-      module _ (a' : ℕ) (kept : a' ≡ a) where
-        pub marks_refused : (n v : ℕ) → v ≡ n → MarkTurn truths s rows t a' w m (Err n) → Adds before r (refused_line v k) after → AddsSome before r (Ticks a b w m rows k t s) after
-        marks_refused n v e turn h =
-            let here = subst (λ (i : ℕ). MarkTurn truths s rows t i w m (Err n)) kept turn in
-            some (Ticks a b w m rows k t s) before after r (refused_line v k) (no_marks p q n truth margin here (ap (λ (i : ℕ). refused_line i k) e)) h
-
-        pub told : (x : Marking truths) (ms : List Mark) → ms ≡ x.marks → MarkTurn truths s rows t a' w m (Ok x) → Adds before r (verdict_line t (outcome_of_lem p) q.low.number q.high.number (length ms) ++ mark_lines ms) after → AddsSome before r (Ticks a b w m rows k t s) after
-        told x ms e turn h =
-            let here = subst (λ (i : ℕ). MarkTurn truths s rows t i w m (Ok x)) kept turn in
-            some (Ticks a b w m rows k t s) before after r (verdict_line t (outcome_of_lem p) q.low.number q.high.number (length ms) ++ mark_lines ms) (verdict p q x truth margin here (ap (λ (v : List Mark). verdict_line t (outcome_of_lem p) q.low.number q.high.number (length v) ++ mark_lines v) e)) h
+-- a line that says how many marks follow, and their lines
+pub counted : (line : ℕ → List ℕ) (n : ℕ) (ms : List Mark) → n ≤ length ms → line (length (take n ms)) ++ mark_lines (take n ms) ≡ line n ++ mark_lines (take n ms)
+counted line n ms fits = ap (λ (i : ℕ). line i ++ mark_lines (take n ms)) (length-take-le n ms fits)
 
 -- a line and the lines behind it
 pub behind : {E : Type 0} (before between after line more : List ℕ) (r : Result (Unit {0}) E) → between ≡ before ++ line → Adds between r more after → Adds before r (line ++ more) after

@@ -1,32 +1,41 @@
 -- The listing of a whole case.
-use Rattle.std.proofs.Common.{◌≡◌, ℕ, ◌+◌, List, [], ◌++◌, Ok, Err, Result, sym, refl, ap, ◌∙◌, subst}
+use Rattle.std.proofs.Common.{◌≡◌, ℕ, ◌+◌, List, [], ◌++◌, Ok, Err, Result, sym, refl, ap, ◌∙◌, subst, append-nil}
 use Rattle.runs.specs.States.{State, opened, line_count}
 use Rattle.cases.specs.declared.fault.CaseRefusal.{CaseRefusal}
 use Rattle.cases.specs.Headings.{Opened, Opens}
 use Rattle.cases.specs.Steps.{Sized}
+use Rattle.case_lines.specs.declared.fault.ListFault.{ListFault}
+use Rattle.case_lines.specs.declared.fault.ListFault.TheVariants.{Refused, NoMemory}
 use Rattle.case_lines.specs.Lines.{refusal_line}
-use Rattle.case_lines.specs.Writes.{Adds, AddsSome}
-use Rattle.case_lines.specs.Listings.{Lists, Listing, lent_cells, too_long, no_heading, listed}
-use Rattle.case_lines.proofs.Adding.{some}
-use Rattle.case_lines.proofs.Carried.{weaker}
+use Rattle.case_lines.specs.Writes.{AddsClosed}
+use Rattle.case_lines.specs.Listings.{Lists, Lent, Listing, too_long, no_heading, listed}
 
-module _ (p a b w m : ℕ) (case before after : List ℕ) {E : Type 0} (r : Result (Unit {0}) E) where
-  pub long : (e : CaseRefusal) → Sized case (Err e) → Adds before r (refusal_line e) after → AddsSome before r (Listing (lent_cells p a b w m) case) after
-  long e s h = some (Listing (lent_cells p a b w m) case) before after r (refusal_line e) (too_long e s refl) h
+-- a stronger property of what is added
+closed : (P Q : List ℕ → Type 0) (before after : List ℕ) (r : Result (Unit {0}) ListFault) → ((v : List ℕ) → P v → Q v) → AddsClosed before r P after → AddsClosed before r Q after
+closed P Q before after (Ok u) f h = (h.0, f h.0 h.1, h.2)
+closed P Q before after (Err (Refused e)) f h = (h.0, f (h.0 ++ refusal_line e) h.1, h.2)
+closed P Q before after (Err NoMemory) f h = tt
+
+module _ (lent : Lent) (case before : List ℕ) where
+  pub long : (e : CaseRefusal) → Sized case (Err e) → AddsClosed before (Err (Refused e)) (Listing lent case) before
+  long e s = ([], too_long e s refl, sym (append-nil before))
 
   module _ (sized : Sized case (Ok tt)) (n : ℕ) (bytes : List ℕ) (first : n ≡ 0) (all : bytes ≡ case) where
     whole : (x : Result Opened CaseRefusal) → Opens (n + 1) [] bytes x → Opens 1 [] case x
     whole x o = subst (λ (v : List ℕ). Opens 1 [] v x) all (subst (λ (i : ℕ). Opens (i + 1) [] bytes x) first o)
 
-    pub unopened : (e : CaseRefusal) → Opens (n + 1) [] bytes (Err e) → Adds before r (refusal_line e) after → AddsSome before r (Listing (lent_cells p a b w m) case) after
-    unopened e o h = some (Listing (lent_cells p a b w m) case) before after r (refusal_line e) (no_heading e sized (whole (Err e) o) refl) h
+    pub unopened : (e : CaseRefusal) → Opens (n + 1) [] bytes (Err e) → AddsClosed before (Err (Refused e)) (Listing lent case) before
+    unopened e o = ([], no_heading e sized (whole (Err e) o) refl, sym (append-nil before))
 
-    pub carried : (o : Opened) (s : State) → Opens (n + 1) [] bytes (Ok o) → s ≡ opened (line_count o.lines p) → AddsSome before r (Lists a b w m o.rows o.next s o.rest) after → AddsSome before r (Listing (lent_cells p a b w m) case) after
-    carried o s opens is h =
-        weaker (Lists a b w m o.rows o.next s o.rest) (Listing (lent_cells p a b w m) case) before after r
-        (λ v l. listed o sized (whole (Ok o) opens) (subst (λ (z : State). Lists a b w m o.rows o.next z o.rest v) is l)) h
+    pub carried : (r : Result (Unit {0}) ListFault) (after : List ℕ) (o : Opened) (s : State) → Opens (n + 1) [] bytes (Ok o) → s ≡ opened (line_count o.lines lent.pieces) → AddsClosed before r (Lists lent.cells o.rows o.next s o.rest) after → AddsClosed before r (Listing lent case) after
+    carried r after o s opens is h =
+        closed (Lists lent.cells o.rows o.next s o.rest) (Listing lent case) before after r
+        (λ v l. listed o sized (whole (Ok o) opens) (subst (λ (z : State). Lists lent.cells o.rows o.next z o.rest v) is l)) h
 
--- behind no text, the text is the listing
-pub alone : (p a b w m : ℕ) (case before after : List ℕ) → before ≡ [] → ((text : List ℕ) × Listing (lent_cells p a b w m) case text × (after ≡ before ++ text)) → Listing (lent_cells p a b w m) case after
-alone p a b w m case before after none h =
-    subst (Listing (lent_cells p a b w m) case) (sym (h.2 ∙ ap (λ (v : List ℕ). v ++ h.0) none)) h.1
+-- behind no text, the text is the listing, with the refusal's line if there is one
+module _ (lent : Lent) (case before after : List ℕ) (none : before ≡ []) where
+  pub alone : AddsClosed before (Ok tt) (Listing lent case) after → Listing lent case after
+  alone h = subst (Listing lent case) (sym (h.2 ∙ ap (λ (v : List ℕ). v ++ h.0) none)) h.1
+
+  pub refused : (e : CaseRefusal) (later : List ℕ) → AddsClosed before (Err (Refused e)) (Listing lent case) after → later ≡ after ++ refusal_line e → Listing lent case later
+  refused e later h w = subst (Listing lent case) (sym (w ∙ ap (λ (v : List ℕ). v ++ refusal_line e) (h.2 ∙ ap (λ (v : List ℕ). v ++ h.0) none))) h.1

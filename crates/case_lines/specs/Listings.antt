@@ -12,16 +12,27 @@ use Rattle.cases.specs.declared.field.Entry.{Entry}
 use Rattle.cases.specs.Contents.{Item, entry, tick}
 use Rattle.cases.specs.Headings.{Opened, Opens}
 use Rattle.cases.specs.Steps.{Sized, Stepped, Steps}
+use Rattle.case_lines.specs.declared.cells.Cells.{Cells}
 use Rattle.case_lines.specs.Lines.{refused_line, refusal_line, verdict_line, mark_lines}
 use Rattle.case_lines.specs.Calls.{Enters}
 
-module _ (truth_rows margin_rows wants marks : ℕ) (rows : List Row) where
+-- how many cells of each sort are lent to the judge
+pub record CellCounts : Type 0 where
+  pub truth_rows : ℕ
+  pub margin_rows : ℕ
+  pub wants : ℕ
+  pub marks : ℕ
+
+abbrev pub counts : Cells → CellCounts
+counts c = record { truth_rows = length c.truths.now; margin_rows = length c.margins.now; wants = length c.wants.now; marks = length c.marks.now }
+
+module _ (cells : CellCounts) (rows : List Row) where
   -- field k is a tick: with so many cells lent, the rule is judged in truth, judged in margin and marked in truth, up to the first refusal
   pub data Ticks (k t : ℕ) (s : State) (text : List ℕ) : Type 0 where
-    no_truth : (n : ℕ) → JudgeTurn truths s rows t truth_rows (Err n) → text ≡ refused_line n k → Ticks k t s text
-    no_margin : (p : Span truths.Value) (n : ℕ) → JudgeTurn truths s rows t truth_rows (Ok p) → JudgeTurn margins s rows t margin_rows (Err n) → text ≡ refused_line n k → Ticks k t s text
-    no_marks : (p : Span truths.Value) (q : Span margins.Value) (n : ℕ) → JudgeTurn truths s rows t truth_rows (Ok p) → JudgeTurn margins s rows t margin_rows (Ok q) → MarkTurn truths s rows t truth_rows wants marks (Err n) → text ≡ refused_line n k → Ticks k t s text
-    verdict : (p : Span truths.Value) (q : Span margins.Value) (m : Marking truths) → JudgeTurn truths s rows t truth_rows (Ok p) → JudgeTurn margins s rows t margin_rows (Ok q) → MarkTurn truths s rows t truth_rows wants marks (Ok m) → text ≡ verdict_line t (outcome_of_lem p) q.low.number q.high.number (length m.marks) ++ mark_lines m.marks → Ticks k t s text
+    no_truth : (n : ℕ) → JudgeTurn truths s rows t cells.truth_rows (Err n) → text ≡ refused_line n k → Ticks k t s text
+    no_margin : (p : Span truths.Value) (n : ℕ) → JudgeTurn truths s rows t cells.truth_rows (Ok p) → JudgeTurn margins s rows t cells.margin_rows (Err n) → text ≡ refused_line n k → Ticks k t s text
+    no_marks : (p : Span truths.Value) (q : Span margins.Value) (n : ℕ) → JudgeTurn truths s rows t cells.truth_rows (Ok p) → JudgeTurn margins s rows t cells.margin_rows (Ok q) → MarkTurn truths s rows t cells.truth_rows cells.wants cells.marks (Err n) → text ≡ refused_line n k → Ticks k t s text
+    verdict : (p : Span truths.Value) (q : Span margins.Value) (m : Marking truths) → JudgeTurn truths s rows t cells.truth_rows (Ok p) → JudgeTurn margins s rows t cells.margin_rows (Ok q) → MarkTurn truths s rows t cells.truth_rows cells.wants cells.marks (Ok m) → text ≡ verdict_line t (outcome_of_lem p) q.low.number q.high.number (length m.marks) ++ mark_lines m.marks → Ticks k t s text
 
   -- what field k does and prints: an entry is entered, and a tick leaves the job as it is
   pub data Does (k : ℕ) (i : Item) (s after : State) (text : List ℕ) : Type 0 where
@@ -37,16 +48,13 @@ module _ (truth_rows margin_rows wants marks : ℕ) (rows : List Row) where
 -- how many cells of each sort are lent
 pub record Lent : Type 0 where
   pub pieces : ℕ
-  pub truth_rows : ℕ
-  pub margin_rows : ℕ
-  pub wants : ℕ
-  pub marks : ℕ
+  pub cells : CellCounts
 
 abbrev pub lent_cells : ℕ → ℕ → ℕ → ℕ → ℕ → Lent
-lent_cells p a b w m = record { pieces = p; truth_rows = a; margin_rows = b; wants = w; marks = m }
+lent_cells p a b w m = record { pieces = p; cells = record { truth_rows = a; margin_rows = b; wants = w; marks = m } }
 
 -- the listing of a case: the names and the rule print nothing, and open a job with as many lines as there are names
 pub data Listing (lent : Lent) (case text : List ℕ) : Type 0 where
   too_long : (e : CaseRefusal) → Sized case (Err e) → text ≡ refusal_line e → Listing lent case text
   no_heading : (e : CaseRefusal) → Sized case (Ok tt) → Opens 1 [] case (Err e) → text ≡ refusal_line e → Listing lent case text
-  listed : (o : Opened) → Sized case (Ok tt) → Opens 1 [] case (Ok o) → Lists lent.truth_rows lent.margin_rows lent.wants lent.marks o.rows o.next (opened (line_count o.lines lent.pieces)) o.rest text → Listing lent case text
+  listed : (o : Opened) → Sized case (Ok tt) → Opens 1 [] case (Ok o) → Lists lent.cells o.rows o.next (opened (line_count o.lines lent.pieces)) o.rest text → Listing lent case text

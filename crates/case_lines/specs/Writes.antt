@@ -1,5 +1,8 @@
 -- What it is to write text behind other text.
-use Rattle.std.specs.Prelude.{◌≡◌, ℕ, List, ◌++◌, Result, OnOk}
+use Rattle.std.specs.Prelude.{◌≡◌, ℕ, List, ◌++◌, Ok, Err, Result, OnOk}
+use Rattle.case_lines.specs.declared.fault.ListFault.{ListFault}
+use Rattle.case_lines.specs.declared.fault.ListFault.TheVariants.{Refused, NoMemory}
+use Rattle.case_lines.specs.Lines.{refusal_line}
 
 -- unless memory ran out, the bytes are added to those before
 abbrev pub Adds : {E : Type 0} → List ℕ → Result (Unit {0}) E → List ℕ → List ℕ → Type 0
@@ -8,3 +11,9 @@ Adds before r bytes after = OnOk r (after ≡ before ++ bytes)
 -- the same of some bytes that have a property
 abbrev pub AddsSome : {E : Type 0} → List ℕ → Result (Unit {0}) E → (List ℕ → Type 0) → List ℕ → Type 0
 AddsSome before r P after = OnOk r ((bytes : List ℕ) × P bytes × (after ≡ before ++ bytes))
+
+-- unless memory ran out, bytes are added that have the property with the refusal behind them
+abbrev pub AddsClosed : List ℕ → Result (Unit {0}) ListFault → (List ℕ → Type 0) → List ℕ → Type 0
+AddsClosed before (Ok u) P after = (bytes : List ℕ) × P bytes × (after ≡ before ++ bytes)
+AddsClosed before (Err (Refused e)) P after = (bytes : List ℕ) × P (bytes ++ refusal_line e) × (after ≡ before ++ bytes)
+AddsClosed before (Err NoMemory) P after = Unit {0}

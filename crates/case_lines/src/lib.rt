@@ -3,6 +3,7 @@
 
 mod calling;
 pub mod cells;
+mod fault;
 pub mod laws;
 pub mod lines;
 pub mod listing;

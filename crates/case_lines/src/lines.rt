@@ -5,7 +5,7 @@ ghost use Rattle.case_lines.specs.Lines.{outcome_text};
 use meaning::outcome::Outcome;
 use std::fmt;
 
-// An outcome as it stands on a line.
+// An outcome as it stands on a line. The outcome is another crate's, and how a listing prints it is this crate's.
 #[derive(Clone, Copy)]
 pub struct OutcomeText(pub Outcome);
 

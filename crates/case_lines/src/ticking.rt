@@ -1,5 +1,5 @@
 // Judging and marking at a tick.
-ghost use Rattle.std.specs.Prelude.{◌++◌, length, string_bytes};
+ghost use Rattle.std.specs.Prelude.{◌≡◌, ℕ, ◌++◌, ◌≤◌, length, IfOk, string_bytes};
 ghost use Rattle.rules.specs.Texts.{table_of};
 ghost use Rattle.jobs.specs.Jobs.{state_of};
 ghost use Rattle.grades.specs.Truths.{truths as truth_kind};
@@ -7,33 +7,59 @@ ghost use Rattle.grades.specs.Worth.{worth};
 ghost use Rattle.meaning.specs.Outcomes.{outcome_of_lem};
 ghost use Rattle.case_lines.specs.Lines.{verdict_line, mark_lines};
 ghost use Rattle.case_lines.specs.Writes.{Adds, AddsSome};
-ghost use Rattle.case_lines.specs.Listings.{Ticks};
+ghost use Rattle.case_lines.specs.Calls.{told_text};
+ghost use Rattle.case_lines.specs.Listings.{Ticks, counts};
 
-use crate::writing::{outcome_of, write_marks, write_refused, write_verdict};
+use crate::cells::Cells;
+use crate::lines::OutcomeText;
+use crate::writing::{outcome_of, write_marks, write_refused};
 use grades::margin::Margin;
 use grades::range::Range;
 use grades::truth::Truth;
 use jobs::job::Job;
 use meaning::mark::Mark;
-use pieces::piece::Piece;
 use rules::rule::Rule;
 use std::alloc::AllocError;
+use judge::fault::MarkFault;
 use judge::judging::judge;
 use judge::marking::mark;
 
-// The verdict's line, and a line for each mark.
-fn write_told(
-    text: &mut String,
-    tick: u32,
+// The verdict at a tick with its margin, and how many marks it has.
+#[derive(Clone, Copy)]
+pub(crate) struct Told {
     verdict: Range<Truth>,
     margin: Range<Margin>,
-    marks: &[Mark],
-) -> Result<(), AllocError>
-    ensures { Adds (string_bytes text.old) result (verdict_line tick (outcome_of_lem (worth truth_kind (λ t. t.holds) verdict)) margin.lower.number margin.upper.number (length marks.now) ++ mark_lines marks.now) (string_bytes text.new) }
+    // The marks are the first so many of the mark cells.
+    marks: usize,
+}
+
+impl Cells<'_> {
+    // Judges at the tick in truth and in margin, and marks; or the first that stands against it.
+    fn tell<'j>(&mut self, job: &Job<'j>, rule: &Rule, tick: u32) -> Result<Told, MarkFault>
+        ensures told { (k : ℕ) → Ticks (counts self.old) (table_of rule.now) k tick (state_of job.now) (told_text k tick self.new.marks.now result) }
+        ensures fits { IfOk result (λ x. x.marks ≤ length self.new.marks.now) }
+        ensures kept { counts self.new ≡ counts self.old }
+    {
+        let verdict = judge(job, rule, tick, self.truths)?;
+        let margin = judge(job, rule, tick, self.margins)?;
+        let marking = mark(job, rule, tick, self.truths, self.wants, self.marks)?;
+        Ok(Told {
+            verdict,
+            margin,
+            marks: marking.marks,
+        })
+    }
+}
+
+// The verdict's line, and a line for each mark.
+fn write_told(text: &mut String, tick: u32, told: Told, marks: &[Mark]) -> Result<(), AllocError>
+    ensures { Adds (string_bytes text.old) result (verdict_line tick (outcome_of_lem (worth truth_kind (λ t. t.holds) told.verdict)) told.margin.lower.number told.margin.upper.number (length marks.now) ++ mark_lines marks.now) (string_bytes text.new) }
 {
-    let lower = margin.lower.number();
-    let upper = margin.upper.number();
-    write_verdict(text, tick, outcome_of(verdict), lower, upper, marks.len())?;
+    let outcome = OutcomeText(outcome_of(told.verdict));
+    let lower = told.margin.lower.number();
+    let upper = told.margin.upper.number();
+    let count = marks.len();
+    writeln!(text, "{tick} {outcome} {lower} {upper} {count}")?;
     write_marks(text, marks)
 }
 
@@ -44,25 +70,13 @@ pub(crate) fn write_tick<'a>(
     rule: &Rule,
     field: usize,
     tick: u32,
-    truths: &mut [Piece<Range<Truth>>],
-    margins: &mut [Piece<Range<Margin>>],
-    wants: &mut [Piece<bool>],
-    marks: &mut [Mark],
+    cells: &mut Cells<'_>,
 ) -> Result<(), AllocError>
-    ensures { AddsSome (string_bytes text.old) result (Ticks (length truths.old) (length margins.old) (length wants.old) (length marks.old) (table_of rule.now) field tick (state_of job.now)) (string_bytes text.new) }
+    ensures prints { AddsSome (string_bytes text.old) result (Ticks (counts cells.old) (table_of rule.now) field tick (state_of job.now)) (string_bytes text.new) }
+    ensures kept { counts cells.new ≡ counts cells.old }
 {
-    let verdict = match judge(job, rule, tick, truths) {
-        Ok(verdict) => verdict,
-        Err(fault) => return write_refused(text, fault.number(), field),
-    };
-    let margin = match judge(job, rule, tick, margins) {
-        Ok(margin) => margin,
-        Err(fault) => return write_refused(text, fault.number(), field),
-    };
-    let marking = match mark(job, rule, tick, truths, wants, marks) {
-        Ok(marking) => marking,
-        Err(fault) => return write_refused(text, fault.number(), field),
-    };
-    let count = marking.marks;
-    write_told(text, tick, verdict, margin, &marks[0..count])
+    match cells.tell(job, rule, tick) {
+        Ok(told) => write_told(text, tick, told, &cells.marks[..told.marks]),
+        Err(fault) => write_refused(text, fault.number(), field),
+    }
 }

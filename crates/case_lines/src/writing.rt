@@ -3,10 +3,9 @@ ghost use Rattle.std.specs.Prelude.{◌≡◌, ◌++◌, length, string_bytes};
 ghost use Rattle.grades.specs.Truths.{truths};
 ghost use Rattle.grades.specs.Worth.{worth};
 ghost use Rattle.meaning.specs.Outcomes.{outcome_of_lem};
-ghost use Rattle.case_lines.specs.Lines.{refused_line, rule_line, refusal_line, verdict_line, mark_line, mark_lines};
+ghost use Rattle.case_lines.specs.Lines.{refused_line, refusal_line, mark_lines};
 ghost use Rattle.case_lines.specs.Writes.{Adds};
 
-use crate::lines::OutcomeText;
 use cases::fault::CaseRefusal;
 use grades::range::Range;
 use grades::truth::Truth;
@@ -21,25 +20,15 @@ pub(crate) fn write_refused(text: &mut String, number: u8, field: usize) -> Resu
     writeln!(text, "refused {number} field {field}")
 }
 
-// The same with a byte of the rule.
-fn write_rule_refused(
-    text: &mut String,
-    number: u8,
-    field: usize,
-    byte: usize,
-) -> Result<(), AllocError>
-    ensures { Adds (string_bytes text.old) result (rule_line number field byte) (string_bytes text.new) }
-{
-    writeln!(text, "refused {number} field {field} byte {byte}")
-}
-
+// The refusal of a case, with the byte of the rule if it is about the rule.
 pub(crate) fn write_refusal(text: &mut String, refusal: CaseRefusal) -> Result<(), AllocError>
     ensures { Adds (string_bytes text.old) result (refusal_line refusal) (string_bytes text.new) }
 {
     let number = refusal.fault.number();
+    let field = refusal.field;
     match refusal.fault.place() {
-        Some(byte) => write_rule_refused(text, number, refusal.field, byte),
-        None => write_refused(text, number, refusal.field),
+        Some(byte) => writeln!(text, "refused {number} field {field} byte {byte}"),
+        None => write_refused(text, number, field),
     }
 }
 
@@ -54,35 +43,13 @@ pub(crate) fn outcome_of(verdict: Range<Truth>) -> Outcome
     }
 }
 
-pub(crate) fn write_verdict(
-    text: &mut String,
-    tick: u32,
-    outcome: Outcome,
-    lower: i32,
-    upper: i32,
-    marks: usize,
-) -> Result<(), AllocError>
-    ensures { Adds (string_bytes text.old) result (verdict_line tick outcome lower upper marks) (string_bytes text.new) }
-{
-    let outcome = OutcomeText(outcome);
-    writeln!(text, "{tick} {outcome} {lower} {upper} {marks}")
-}
-
-fn write_mark(text: &mut String, mark: Mark) -> Result<(), AllocError>
-    ensures { Adds (string_bytes text.old) result (mark_line mark) (string_bytes text.new) }
-{
-    let row = mark.row;
-    let first = mark.first;
-    let after = mark.after;
-    writeln!(text, "{row} {first} {after}")
-}
-
 // A line for each mark.
 pub(crate) fn write_marks(text: &mut String, marks: &[Mark]) -> Result<(), AllocError>
     ensures { Adds (string_bytes text.old) result (mark_lines marks.now) (string_bytes text.new) }
 {
-    for k in 0..marks.len() {
-        write_mark(text, marks[k])?;
+    for mark in marks {
+        let Mark { row, first, after } = mark;
+        writeln!(text, "{row} {first} {after}")?;
     }
     Ok(())
 }

@@ -4,27 +4,13 @@
 ghost use Rattle.std.specs.Prelude.{IfOk, string_bytes};
 ghost use Rattle.case_samples.specs.Samples.{Listed, FaultShown, Shown};
 
-use case_lines::cells::Cells;
+use case_lines::cells::{
+    BLANK_MARK, BLANK_WANT, Cells, MARKS, PIECES, ROWS, WANTS, blank_piece, blank_row,
+};
 use case_lines::listing::list_case;
 use case_text::{PackFault, pack};
-use grades::grade::Grade;
-use grades::margin::Margin;
-use grades::range::Range;
-use grades::truth::Truth;
-use meaning::mark::Mark;
-use meaning::reading::Reading;
-use pieces::piece::Piece;
 use std::alloc::{AllocError, Global};
 use std::{fs, io};
-
-// Cells for the pieces of 16 lines, for the row lists of each grade, for the want lists, and for the marks.
-const PIECES: usize = 1024;
-
-const ROWS: usize = 1024;
-
-const WANTS: usize = 1024;
-
-const MARKS: usize = 256;
 
 const SAMPLES: [&str; 5] = [
     "cold_start.txt",
@@ -38,33 +24,11 @@ const SAMPLES: [&str; 5] = [
 fn list(case: &[u8], heap: Global) -> Result<String, AllocError>
     ensures { IfOk result (λ shown. Listed case.now (string_bytes shown)) }
 {
-    let mut pieces = [Piece {
-        start: 0,
-        value: Reading::widest(),
-    }; PIECES];
-    let mut truths = [Piece {
-        start: 0,
-        value: Range {
-            lower: Truth::lowest(),
-            upper: Truth::highest(),
-        },
-    }; ROWS];
-    let mut margins = [Piece {
-        start: 0,
-        value: Range {
-            lower: Margin::lowest(),
-            upper: Margin::highest(),
-        },
-    }; ROWS];
-    let mut wants = [Piece {
-        start: 0,
-        value: false,
-    }; WANTS];
-    let mut marks = [Mark {
-        row: 0,
-        first: 0,
-        after: 0,
-    }; MARKS];
+    let mut pieces = [blank_piece(); PIECES];
+    let mut truths = [blank_row(); ROWS];
+    let mut margins = [blank_row(); ROWS];
+    let mut wants = [BLANK_WANT; WANTS];
+    let mut marks = [BLANK_MARK; MARKS];
     let cells = Cells {
         truths: &mut truths,
         margins: &mut margins,

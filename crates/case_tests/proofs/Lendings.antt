@@ -1,5 +1,5 @@
 -- A listing with as many cells, counted another way.
-use Rattle.std.proofs.Common.{◌≡◌, ℕ, ◌-◌, min, List, length, take, IfOk, Ok, Err, Result, subst, arith}
+use Rattle.std.proofs.Common.{◌≡◌, ℕ, min, List, length, take, IfOk, Ok, Err, Result, subst, arith}
 use Rattle.std.proofs.lemmas.List.{length-take}
 use Rattle.case_lines.specs.Listings.{Lent, Listing, lent_cells}
 
@@ -11,5 +11,5 @@ recounted f (Ok t) case e g h k l x = subst (λ (y : Lent). Listing y case (f t)
 recounted f (Err t) case e g h k l x = tt
 
 -- so many of 64 cells
-pub cut : {X : Type 0} (xs : List X) (n m : ℕ) → length xs ≡ 64 → n ≡ min m 64 → length (take (n - 0) xs) ≡ min m 64
-cut xs n m all e = omega (arith, length-take (n - 0) xs)
+pub cut : {X : Type 0} (xs : List X) (n m : ℕ) → length xs ≡ 64 → n ≡ min m 64 → length (take n xs) ≡ min m 64
+cut xs n m all e = omega (arith, length-take n xs)

@@ -4,7 +4,7 @@
 mod example;
 mod examples;
 
-use example::{Lent, note};
+use example::{Example, Lent, note};
 use examples::EXAMPLES;
 use std::io;
 
@@ -16,16 +16,26 @@ const NO_CELLS: Lent = Lent {
 
 fn main(rt: HostRuntime) -> io::Result<()> {
     for example in &EXAMPLES {
-        note(&rt, example.0, example.1, example.2, example.3)?;
+        note(&rt, example)?;
     }
     // As long as a case may be, and one byte longer.
     let bytes = [0u8; 16_385];
     note(
         &rt,
-        "16384 bytes",
-        NO_CELLS,
-        &bytes[0..16_384],
-        "refused 20 field 1\n",
+        &Example {
+            title: "16384 bytes",
+            lent: NO_CELLS,
+            case: &bytes[..16_384],
+            lines: "refused 20 field 1\n",
+        },
     )?;
-    note(&rt, "16385 bytes", NO_CELLS, &bytes, "refused 22 field 0\n")
+    note(
+        &rt,
+        &Example {
+            title: "16385 bytes",
+            lent: NO_CELLS,
+            case: &bytes,
+            lines: "refused 22 field 0\n",
+        },
+    )
 }

@@ -1,27 +1,22 @@
 -- Cutting a list at the first of a kind of byte, and the pieces that this gives.
-use Rattle.std.proofs.Common.{◌≡◌, ℕ, ◌+◌, ◌-◌, ◌<◌, ◌≤◌, Bool, true, false, cond, eqb, List, [], ◌∷◌, ◌++◌, length, get_or, take, drop, sym, refl, ap, ◌∙◌, subst, arith, eq-eqb}
+use Rattle.std.proofs.Common.{◌≡◌, ℕ, ◌+◌, ◌-◌, ◌<◌, ◌≢◌, MatchOption, Some, Option, Bool, true, false, cond, eqb, List, [], ◌∷◌, ◌++◌, length, take, drop, sym, refl, ap, ◌∙◌, subst, arith, eq-eqb}
 use mathlib.Core.List.{head-eq_of_cons-eq, tail-eq_of_cons-eq}
+use Rattle.std.specs.List.{AllWithin, HoldsAt}
 use Rattle.std.proofs.ByRecursion.{All-from_get_or}
 use Rattle.std.proofs.lemmas.List.{take-append-drop, drop_more, get_or-take, length-take-le, take_rest}
 use Rattle.std.proofs.lemmas.Bool.{ne_eqb}
 use Rattle.case_text.specs.Pieces.{onto, pieces, Without, Cut}
 
-module _ (c : ℕ) (bytes : List ℕ) where
-  pub cut_none : (at : ℕ) → length bytes ≤ at → ((k : ℕ) → k < at → get_or bytes k 0 ≡ c → ⊥) → Without c bytes
-  cut_none at all before = All-from_get_or (λ b. b ≡ c → ⊥) bytes 0 (λ i h. before i (omega arith))
-
-  pub cut_found : (at : ℕ) → at < length bytes → ((k : ℕ) → k < at → get_or bytes k 0 ≡ c → ⊥) → get_or bytes at 0 ≡ c → Cut c bytes (take (at - 0) bytes) (take (length bytes - (at + 1)) (drop (at + 1) bytes))
-  cut_found at here before found =
-      let plain : at - 0 ≡ at = omega arith in
-      let clean : Without c (take at bytes) =
-      All-from_get_or (λ b. b ≡ c → ⊥) (take at bytes) 0 (λ i h. let few : i < at = omega (arith, length-take-le at bytes (omega arith)) in λ e. before i few (sym (get_or-take at bytes i 0 few) ∙ e)) in
-      record {
-        put =
-            sym (take-append-drop at bytes) ∙
-            ap (λ (v : List ℕ). take at bytes ++ v) (drop_more bytes at 0 here) ∙
-            (λ i. take (sym plain i) bytes ++ (found i ∷ sym (take_rest bytes (at + 1)) i));
-        clean = subst (λ (n : ℕ). Without c (take n bytes)) (sym plain) clean;
-      }
+pub cut_found : (c : ℕ) (bytes : List ℕ) (r : Option ℕ) (at : ℕ) → r ≡ Some at → MatchOption r (AllWithin (λ b. b ≢ c) bytes 0 (length bytes)) (λ i. (i < length bytes) × HoldsAt (λ b. b ≡ c) bytes i × AllWithin (λ b. b ≢ c) bytes 0 i) → Cut c bytes (take at bytes) (take (length bytes - (at + 1)) (drop (at + 1) bytes))
+cut_found c bytes r at is first =
+    let f = rw is at first in
+    record {
+      put =
+          sym (take-append-drop at bytes) ∙
+          ap (λ (v : List ℕ). take at bytes ++ v) (drop_more bytes at 0 f.0) ∙
+          (λ i. take at bytes ++ (f.1 0 i ∷ sym (take_rest bytes (at + 1)) i));
+      clean = All-from_get_or (λ b. b ≡ c → ⊥) (take at bytes) 0 (λ i h. let few : i < at = omega (arith, length-take-le at bytes (omega (arith, f.0))) in λ e. f.2 i 0 (omega arith) few (sym (get_or-take at bytes i 0 few) ∙ e));
+    }
 
 -- a text is cut in one way only
 one_cut : (c : ℕ) (f g r s : List ℕ) → Without c f → Without c g → f ++ (c ∷ r) ≡ g ++ (c ∷ s) → (f ≡ g) × (r ≡ s)

@@ -1,5 +1,4 @@
 pub mod Cutting
-pub mod Tenths
 pub mod Signs
 pub mod Names
 pub mod Fives

@@ -1,31 +1,31 @@
--- The first of the names that is a word, by a search from the left.
-use Rattle.std.proofs.Common.{◌≡◌, ℕ, ◌+◌, ◌<◌, ◌≤◌, List, [], ◌∷◌, ◌++◌, length, get_or, sym, ap, ◌∙◌, arith, Bor, below_more}
-use Rattle.std.proofs.lemmas.List.{get_or-map, length-map, map-append}
+-- The first of the names that is a word.
+use Rattle.std.proofs.Common.{◌≡◌, ℕ, ◌<◌, ◌≢◌, List, [], ◌∷◌, ◌++◌, length, get_or, take, MatchOption, Some, None, Option, sym, ap, ◌∙◌, arith, Bor}
+use Rattle.std.specs.List.{AllWithin, HoldsAt}
+use Rattle.std.proofs.lemmas.List.{get_or-map, get_or-take, length-take, length-map, map-append}
 use Rattle.cases.specs.declared.field.Content.{Content}
 use Rattle.cases.specs.declared.field.Content.TheVariants as content
 use Rattle.cases.specs.Contents.{item_of}
 use Rattle.tokens.specs.Answers.{texts}
 use Rattle.case_text.specs.Words.{First}
 use Rattle.case_text.specs.Sayings.{named}
+use Rattle.case_text.specs.Parts.{Reads}
 
-abbrev pub Passed : List (List ℕ) → List ℕ → ℕ → Type 0
-Passed names w i = (j : ℕ) → j < i → get_or names j [] ≡ w → ⊥
+module _ (refs : List (Bor (List ℕ))) (w : List ℕ) (d : Bor (List ℕ)) where
+  is_read : (i : ℕ) → i < length (take 256 refs) → get_or (texts refs) i [] ≡ (get_or (take 256 refs) i d).now
+  is_read i there =
+      let few : i < 256 = omega (arith, there, length-take 256 refs) in
+      get_or-map (λ x. x.now) refs i d [] (omega (arith, there, length-take 256 refs)) ∙ ap (λ x. x.now) (sym (get_or-take 256 refs i d few))
 
-module _ (refs : List (Bor (List ℕ))) (d : Bor (List ℕ)) (w : List ℕ) (i : ℕ) (here : i < length refs) where
-  is_read : get_or (texts refs) i [] ≡ (get_or refs i d).now
-  is_read = get_or-map (λ x. x.now) refs i d [] here
-
-  pub found : i < 256 → Passed (texts refs) w i → (get_or refs i d).now ≡ w → First (texts refs) w i
-  found few passed same = record { byte = few; there = rw length-map here; same = is_read ∙ same; first = passed }
-
-  pub passed_more : Passed (texts refs) w i → ((get_or refs i d).now ≡ w → ⊥) → Passed (texts refs) w (i + 1)
-  passed_more passed other = below_more _ _ passed (λ same. other (sym is_read ∙ same))
-
-pub passed_all : (refs : List (Bor (List ℕ))) (w : List ℕ) (i : ℕ) → Passed (texts refs) w i → length refs ≤ i → (k : ℕ) → First (texts refs) w k → ⊥
-passed_all refs w i passed all k f = passed k (omega (arith, length-map refs (λ x. x.now), f.there)) f.same
-
-pub passed_bytes : (names : List (List ℕ)) (w : List ℕ) (i : ℕ) → Passed names w i → 256 ≤ i → (k : ℕ) → First names w k → ⊥
-passed_bytes names w i passed all k f = passed k (omega (arith, f.byte)) f.same
+  pub found : (r : Option ℕ) → MatchOption r (AllWithin (λ x. x.now ≢ w) (take 256 refs) 0 (length (take 256 refs))) (λ i. (i < length (take 256 refs)) × HoldsAt (λ x. x.now ≡ w) (take 256 refs) i × AllWithin (λ x. x.now ≢ w) (take 256 refs) 0 i) → Reads (First (texts refs) w) r
+  found None none =
+      λ k f. let here : k < length (take 256 refs) = omega (arith, f.byte, f.there, length-take 256 refs, length-map refs (λ x. x.now)) in none k d (omega arith) here (sym (is_read k here) ∙ f.same)
+  found (Some i) first =
+      record {
+        byte = omega (arith, first.0, length-take 256 refs);
+        there = omega (arith, first.0, length-take 256 refs, length-map refs (λ x. x.now));
+        same = is_read i first.0 ∙ first.1 d;
+        first = λ j before same. first.2 j d (omega arith) before (sym (is_read j (omega (arith, before, first.0))) ∙ same);
+      }
 
 -- one more name is kept
 pub kept_name : (c : Content) (w : Bor (List ℕ)) (before after : List (Bor (List ℕ))) → c ≡ content.Name w → after ≡ before ++ (w ∷ []) → texts after ≡ texts before ++ named (item_of c)

@@ -4,36 +4,28 @@ ghost use Rattle.cases.specs.Contents.{entry, tick, Says, item_of};
 ghost use Rattle.cases.specs.Laws.{packed};
 ghost use Rattle.case_text.specs.Parts.{FitsField, Adds};
 
-use cases::field::{Content, Entry};
+use cases::field::{Content, ENTRY_BYTES, Entry, TICK_BYTES};
+use cases::tag;
 use std::alloc::AllocError;
-
-// The tags: L, R, E and T.
-const NAME: u8 = 0x4C;
-
-const RULE: u8 = 0x52;
-
-const ENTRY: u8 = 0x45;
-
-const TICK: u8 = 0x54;
 
 // The tag, the length in two bytes, and the body.
 fn put_field(case: &mut Vec<u8>, tag: u8, body: &[u8]) -> Result<(), AllocError>
     requires { length body.now ≤ 65535 }
     ensures { OnOk result (case.new.items ≡ case.old.items ++ packed tag body.now) }
 {
-    let size = body.len();
-    case.extend_from_slice(&[tag, (size / 256) as u8, (size % 256) as u8])?;
+    let [high, low] = (body.len() as u16).to_be_bytes();
+    case.extend_from_slice(&[tag, high, low])?;
     case.extend_from_slice(body)?;
     Ok(())
 }
 
-fn tick_bytes(t: u32) -> [u8; 4]
+fn tick_bytes(t: u32) -> [u8; TICK_BYTES]
     ensures { Says 0x54 result (tick t) }
 {
     t.to_be_bytes()
 }
 
-fn entry_bytes(e: Entry) -> [u8; 17]
+fn entry_bytes(e: Entry) -> [u8; ENTRY_BYTES]
     ensures { Says 0x45 result (entry e) }
 {
     let from = e.from.to_be_bytes();
@@ -52,10 +44,10 @@ pub(crate) fn put(case: &mut Vec<u8>, content: Content<'_>) -> Result<(), AllocE
     ensures { OnOk result (Adds case.old.items (item_of content.entry) case.new.items) }
 {
     match content {
-        Content::Name(word) => put_field(case, NAME, word)?,
-        Content::Rule(text) => put_field(case, RULE, text)?,
-        Content::Entry(entry) => put_field(case, ENTRY, &entry_bytes(entry))?,
-        Content::Tick(tick) => put_field(case, TICK, &tick_bytes(tick))?,
+        Content::Name(word) => put_field(case, tag::NAME, word)?,
+        Content::Rule(text) => put_field(case, tag::RULE, text)?,
+        Content::Entry(entry) => put_field(case, tag::ENTRY, &entry_bytes(entry))?,
+        Content::Tick(tick) => put_field(case, tag::TICK, &tick_bytes(tick))?,
     }
     Ok(())
 }

@@ -47,28 +47,19 @@ pub(crate) fn is_silent(line: &[u8]) -> bool
 fn name_of<'a>(word: &'a [u8]) -> Option<Content<'a>>
     ensures { NameContent word.now result }
 {
-    if is_line_name(word) {
-        Some(Content::Name(word))
-    } else {
-        None
-    }
+    is_line_name(word).then_some(Content::Name(word))
 }
 
 fn rule_of<'a>(text: &'a [u8]) -> Option<Content<'a>>
     ensures { RuleContent text.now result }
 {
-    if text.len() <= RULE_BYTES {
-        Some(Content::Rule(text))
-    } else {
-        None
-    }
+    (text.len() <= RULE_BYTES).then_some(Content::Rule(text))
 }
 
 fn tick_of<'a>(word: &'a [u8]) -> Option<Content<'a>>
     ensures { TickContent word.now result }
 {
-    let tick = whole(word)?;
-    Some(Content::Tick(tick))
+    Some(Content::Tick(whole(word)?))
 }
 
 // The five words, if there are five.
@@ -79,9 +70,9 @@ fn five_words<'a>(words: &'a [u8]) -> Option<EntryWords<'a>>
     let two = split_at(one.rest, SPACE)?;
     let three = split_at(two.rest, SPACE)?;
     let four = split_at(three.rest, SPACE)?;
-    if let Some(_) = split_at(four.rest, SPACE) {
+    let None = split_at(four.rest, SPACE) else {
         return None;
-    }
+    };
     Some(EntryWords {
         which: one.front,
         begin: two.front,
@@ -113,8 +104,7 @@ fn entry_of(names: &[&[u8]], words: &[u8]) -> Option<Entry>
 fn enter_of<'a>(names: &[&[u8]], words: &'a [u8]) -> Option<Content<'a>>
     ensures { EntryContent (texts names.now) words.now result }
 {
-    let entry = entry_of(names, words)?;
-    Some(Content::Entry(entry))
+    Some(Content::Entry(entry_of(names, words)?))
 }
 
 // What the line says behind lines that gave these names.

@@ -1,17 +1,21 @@
 -- What the fields up to the rule answer, one by one.
-use Rattle.std.proofs.Common.{◌≡◌, ℕ, ◌+◌, ◌-◌, ◌<◌, ◌≤◌, List, [], ◌∷◌, ◌++◌, length, take, set, Some, None, Ok, Err, Result, sym, refl, ap, ◌∙◌, subst, arith, Bor}
-use native.Mathlib.Nat.{sub-zero}
-use Rattle.std.proofs.lemmas.List.{take_more_set, map_push, length-map, length-take-le}
+use Rattle.std.proofs.Common.{◌≡◌, ℕ, ◌+◌, ◌<◌, List, [], ◌∷◌, ◌++◌, length, Some, None, Ok, Err, Option, Result, sym, refl, ap, ◌∙◌, subst, arith, Bor}
+use Rattle.std.specs.Option.{ok_or}
+use Rattle.std.proofs.lemmas.List.{map_push, length-map}
 use Rattle.tokens.specs.Answers.{texts}
+use Rattle.rules.specs.declared.fault.RuleFault.{RuleFault}
 use Rattle.rules.specs.declared.rule.Rule.{Rule as RuleTable}
-use Rattle.rules.specs.Texts.{table_of}
+use Rattle.rules.specs.Texts.{table_of, Answered}
 use Rattle.cases.specs.declared.fault.CaseFault.{CaseFault}
 use Rattle.cases.specs.declared.fault.CaseRefusal.{CaseRefusal}
-use Rattle.cases.specs.declared.fault.CaseFault.TheVariants.{TooLong, BadField, Misplaced, Rule}
+use Rattle.cases.specs.declared.fault.CaseFault.TheVariants.{BadField, Misplaced, Rule}
+use Rattle.cases.specs.declared.field.Field.{Field}
+use Rattle.cases.specs.declared.reader.CaseReader.{CaseReader}
 use Rattle.cases.specs.Fields.{Leads}
 use Rattle.cases.specs.Contents.{Item, name, rule, entry, tick, Says, a_name, a_rule, an_entry, a_tick, Wrong}
 use Rattle.cases.specs.Orders.{Stands}
-use Rattle.cases.specs.Headings.{refusal, Opened, Opens, wrong, misplaced, named, no_rule, ruled, Head, RuleTaken, Refuses}
+use Rattle.cases.specs.Readers.{Next}
+use Rattle.cases.specs.Headings.{refusal, Opened, Opens, missing, wrong, misplaced, named, no_rule, ruled, Head, Refuses, Wanted}
 
 -- a name's field holds the name
 word : Item → List ℕ
@@ -34,39 +38,21 @@ module _ (names : List (List ℕ)) (tag : ℕ) (body : List ℕ) (n : ℕ) where
   pub out_of_place : (f : CaseFault) (i : Item) → Says tag body i → (Stands names i → ⊥) → f ≡ Misplaced → Refuses names n tag body (refusal n f)
   out_of_place f i s off e bytes rest l = misplaced l s off (ap (λ (g : CaseFault). Err (refusal n g)) e)
 
-  pub rule_refused : (f : CaseFault) (text : List ℕ) → Says tag body (rule text) → RuleTaken names text (Err f) → Refuses names n tag body (refusal n f)
-  rule_refused TooLong text s t bytes rest l = absurd t
-  rule_refused BadField text s t bytes rest l = absurd t
-  rule_refused Misplaced text s t bytes rest l = misplaced l s t refl
-  rule_refused (Rule f) text s t bytes rest l = no_rule f l s t.0 t.1 refl
+  pub rule_refused : (f : RuleFault) (text : List ℕ) → Says tag body (rule text) → 0 < length names → Answered names text (Err f) → Refuses names n tag body (refusal n (Rule f))
+  rule_refused f text s some t bytes rest l = no_rule f l s some t refl
 
--- the first k cells hold the names so far
-module _ (refs : List (Bor (List ℕ))) (k : ℕ) (all : length refs ≡ 16) (few : k ≤ 16) where
-  abbrev sofar : List (List ℕ)
-  sofar = texts (take k refs)
+-- where the next field has to follow
+pub waits : (before after : CaseReader) (o : Option Field) (e : CaseRefusal) → Next before (Ok o) after → e ≡ refusal (after.number + 1) Misplaced → Wanted before (ok_or o e) after
+waits before after None e h is = λ names. missing h.0 (ap Err is ∙ ap (λ (n : ℕ). Err (refusal (n + 1) Misplaced)) h.2)
+waits before after (Some f) e h is = h
 
-  size : length sofar ≡ k
-  size = length-map (take k refs) (λ x. x.now) ∙ length-take-le k refs (omega arith)
+-- the names so far are those of the cells
+module _ (refs : List (Bor (List ℕ))) (n m tag : ℕ) (bytes rest : List ℕ) (same : m ≡ n) where
+  pub finished : (body : List ℕ) (k : ℕ) → Leads bytes tag body rest → k ≡ length refs → (r : RuleTable) → Head (texts refs) tag body (Some r) → Opens n (texts refs) bytes (Ok (record { lines = k; rows = table_of r; next = m + 1; rest = rest }))
+  finished body k l size r h =
+      ruled (table_of r) l h.1 h.2 h.3 (ap (λ (i : ℕ). Ok (record { lines = i; rows = table_of r; next = m + 1; rest = rest })) (size ∙ sym (length-map refs (λ x. x.now))) ∙ ap (λ (i : ℕ). Ok (record { lines = length (texts refs); rows = table_of r; next = i + 1; rest = rest })) same)
 
-  front : texts (take (k - 0) refs) ≡ sofar
-  front = ap (λ (i : ℕ). texts (take i refs)) (sub-zero k)
-
-  pub room : (tag : ℕ) (w : List ℕ) → Head (texts (take (k - 0) refs)) tag w None → k < 16
-  room tag w h = omega (arith, h.1.few, ap length front, size)
-
-  module _ (n m tag : ℕ) (body bytes rest : List ℕ) (same : m ≡ n) (l : Leads bytes tag body rest) where
-    pub stopped : (e : CaseRefusal) → Refuses (texts (take (k - 0) refs)) m tag body e → Opens n sofar bytes (Err e)
-    stopped e h =
-        subst (λ (i : ℕ). Opens i sofar bytes (Err e)) same (subst (λ (v : List (List ℕ)). Opens m v bytes (Err e)) front (h bytes rest l))
-
-    pub finished : (r : RuleTable) → Head (texts (take (k - 0) refs)) tag body (Some r) → Opens n sofar bytes (Ok (record { lines = k; rows = table_of r; next = m + 1; rest = rest }))
-    finished r h =
-        let g = subst (λ (v : List (List ℕ)). Head v tag body (Some r)) front h in
-        ruled (table_of r) l g.1 g.2 g.3 (ap (λ (i : ℕ). Ok (record { lines = i; rows = table_of r; next = m + 1; rest = rest })) (sym size) ∙ ap (λ (i : ℕ). Ok (record { lines = length sofar; rows = table_of r; next = i + 1; rest = rest })) same)
-
-  pub onward : (n m tag : ℕ) (b : Bor (List ℕ)) (bytes rest : List ℕ) → m ≡ n → Leads bytes tag b.now rest → Head (texts (take (k - 0) refs)) tag b.now None → (r : Result Opened CaseRefusal) → Opens (m + 1) (texts (take (k + 1) (set refs k b))) rest r → Opens n sofar bytes r
-  onward n m tag b bytes rest same l h r o =
-      let here : k < 16 = room tag b.now h in
-      let g = subst (λ (v : List (List ℕ)). Head v tag b.now None) front h in
-      let grown : texts (take (k + 1) (set refs k b)) ≡ sofar ++ (b.now ∷ []) = ap texts (take_more_set refs k b (omega arith)) ∙ map_push (λ x. x.now) (take k refs) b in
-      named l g.0 g.1 (subst (λ (i : ℕ). Opens (i + 1) (sofar ++ (b.now ∷ [])) rest r) same (subst (λ (v : List (List ℕ)). Opens (m + 1) v rest r) grown o))
+  pub onward : (b : Bor (List ℕ)) → Leads bytes tag b.now rest → Head (texts refs) tag b.now None → (more : List (Bor (List ℕ))) → more ≡ refs ++ (b ∷ []) → (r : Result Opened CaseRefusal) → Opens (m + 1) (texts more) rest r → Opens n (texts refs) bytes r
+  onward b l h more pushed r o =
+      let grown : texts more ≡ texts refs ++ (b.now ∷ []) = ap texts pushed ∙ map_push (λ x. x.now) refs b in
+      named l h.0 h.1 (subst (λ (i : ℕ). Opens (i + 1) (texts refs ++ (b.now ∷ [])) rest r) same (subst (λ (v : List (List ℕ)). Opens (m + 1) v rest r) grown o))

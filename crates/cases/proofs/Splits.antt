@@ -54,11 +54,11 @@ module _ (xs : List ℕ) (at : ℕ) where
   cut_body size some e few =
       subst CutShort (take_rest xs at) (no_body (from xs at) size some e (omega (arith, ap length (take_rest (from xs at) 3), length-drop 3 (from xs at))))
 
-  pub taken : (size : ℕ) (body : List ℕ) → 3 ≤ length (from xs at) → size ≡ get_or (from xs at) 1 0 * 256 + get_or (from xs at) 2 0 → size ≤ length (from (from xs at) 3) → body ≡ take size (from (from xs at) 3) → Leads (drop at xs) (get_or (from xs at) 0 0) body (drop (at + 3 + size) xs)
+  pub taken : (size : ℕ) (body : List ℕ) → 3 ≤ length (from xs at) → size ≡ get_or (from xs at) 1 0 * 256 + get_or (from xs at) 2 0 → size ≤ length (from (from xs at) 3) → body ≡ take size (from (from xs at) 3) → Leads (drop at xs) (get_or (from xs at) 0 0) body (drop (at + (3 + size)) xs)
   taken size body some e within is =
       let tail : from (from xs at) 3 ≡ drop 3 (from xs at) = take_rest (from xs at) 3 in
       moved
       (take_rest xs at)
       (sym (is ∙ ap (take size) tail))
-      (ap (λ (v : List ℕ). drop size (drop 3 v)) (take_rest xs at) ∙ ap (drop size) (drop-drop 3 at xs) ∙ drop-drop size (at + 3) xs)
+      (ap (λ (v : List ℕ). drop size (drop 3 v)) (take_rest xs at) ∙ ap (drop size) (drop-drop 3 at xs) ∙ drop-drop size (at + 3) xs ∙ ap (λ (n : ℕ). drop n xs) (omega arith))
       (leads (from xs at) size some e (omega (arith, ap length tail)))

@@ -5,7 +5,7 @@ use Rattle.rules.specs.declared.row.Row.{Row}
 use Rattle.rules.specs.declared.rule.Rule.{Rule as RuleTable}
 use Rattle.rules.specs.Texts.{table_of, Answered}
 use Rattle.cases.specs.declared.fault.CaseFault.{CaseFault}
-use Rattle.cases.specs.declared.fault.CaseFault.TheVariants.{TooLong, BadField, Misplaced, Rule}
+use Rattle.cases.specs.declared.fault.CaseFault.TheVariants.{BadField, Misplaced, Rule}
 use Rattle.cases.specs.declared.fault.CaseRefusal.{CaseRefusal}
 use Rattle.cases.specs.declared.field.Field.{Field}
 use Rattle.cases.specs.declared.heading.Heading.{Heading}
@@ -45,18 +45,6 @@ abbrev pub Wanted : CaseReader → Result Field CaseRefusal → CaseReader → T
 Wanted before (Ok f) after = Took before f after
 Wanted before (Err e) after = (names : List (List ℕ)) → Opens (before.number + 1) names (left_of before) (Err e)
 
--- what taking a name and taking the rule answer
-abbrev pub NameTaken : List (List ℕ) → List ℕ → Result (Unit {0}) CaseFault → Type 0
-NameTaken names w (Ok u) = Admits names w
-NameTaken names w (Err f) = (Admits names w → ⊥) × (f ≡ Misplaced)
-
-abbrev pub RuleTaken : List (List ℕ) → List ℕ → Result RuleTable CaseFault → Type 0
-RuleTaken names text (Ok r) = (0 < length names) × Answered names text (Ok (table_of r))
-RuleTaken names text (Err TooLong) = ⊥
-RuleTaken names text (Err BadField) = ⊥
-RuleTaken names text (Err Misplaced) = 0 < length names → ⊥
-RuleTaken names text (Err (Rule f)) = (0 < length names) × Answered names text (Err f)
-
 -- what one field does before the rule: it is one more name, it is the rule, or it is refused
 abbrev pub Head : List (List ℕ) → ℕ → List ℕ → Option RuleTable → Type 0
 Head names tag body None = Says tag body (name body) × Admits names body
@@ -68,7 +56,3 @@ Refuses names n tag body e = (bytes rest : List ℕ) → Leads bytes tag body re
 abbrev pub Heads : List (List ℕ) → ℕ → List ℕ → Result (Option RuleTable) CaseFault → Type 0
 Heads names tag body (Ok o) = Head names tag body o
 Heads names tag body (Err f) = (n : ℕ) → Refuses names n tag body (refusal n f)
-
-abbrev pub HeadsAt : List (List ℕ) → ℕ → ℕ → List ℕ → Result (Option RuleTable) CaseRefusal → Type 0
-HeadsAt names n tag body (Ok o) = Head names tag body o
-HeadsAt names n tag body (Err e) = Refuses names n tag body e

@@ -4,22 +4,14 @@ ghost use Rattle.cases.specs.Numbers.{number_at, signed_at};
 ghost use Rattle.cases.specs.Contents.{ContentRead};
 
 use crate::fault::CaseFault;
-
-// The tags: L, R, E and T.
-const NAME: u8 = 0x4C;
-
-const RULE: u8 = 0x52;
-
-const ENTRY: u8 = 0x45;
-
-const TICK: u8 = 0x54;
+use crate::tag;
 
 // How long a name may be, and how long an entry and a tick are.
-const NAME_BYTES: usize = 8;
+pub const NAME_BYTES: usize = 8;
 
-const ENTRY_BYTES: usize = 17;
+pub const ENTRY_BYTES: usize = 17;
 
-const TICK_BYTES: usize = 4;
+pub const TICK_BYTES: usize = 4;
 
 // A field as it stands in the case; fields count from 1.
 #[derive(Clone, Copy)]
@@ -70,25 +62,18 @@ impl<'a> Field<'a> {
         ensures { ContentRead self.entry.tag self.entry.bytes.now result }
     {
         let bytes = self.bytes;
-        let size = bytes.len();
-        if self.tag == NAME && 0 < size && size <= NAME_BYTES {
-            return Ok(Content::Name(bytes));
-        }
-        if self.tag == RULE {
-            return Ok(Content::Rule(bytes));
-        }
-        if self.tag == ENTRY && size == ENTRY_BYTES {
-            return Ok(Content::Entry(Entry {
+        match (self.tag, bytes.len()) {
+            (tag::NAME, 1..=NAME_BYTES) => Ok(Content::Name(bytes)),
+            (tag::RULE, _) => Ok(Content::Rule(bytes)),
+            (tag::ENTRY, ENTRY_BYTES) => Ok(Content::Entry(Entry {
                 line: bytes[0],
                 from: unsigned(bytes, 1),
                 to: unsigned(bytes, 5),
                 lower: signed(bytes, 9),
                 upper: signed(bytes, 13),
-            }));
+            })),
+            (tag::TICK, TICK_BYTES) => Ok(Content::Tick(unsigned(bytes, 0))),
+            _ => Err(CaseFault::BadField),
         }
-        if self.tag == TICK && size == TICK_BYTES {
-            return Ok(Content::Tick(unsigned(bytes, 0)));
-        }
-        Err(CaseFault::BadField)
     }
 }

@@ -12,3 +12,4 @@ pub mod opening;
 pub mod reader;
 pub mod reading;
 pub mod stepping;
+pub mod tag;

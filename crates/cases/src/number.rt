@@ -1,10 +1,18 @@
 // The numbers and places of the refusals.
 ghost use Rattle.std.specs.Prelude.{◌≡◌};
 ghost use Rattle.cases.specs.Faults.{case_number, case_place};
+ghost use Rattle.cases.specs.Headings.{refusal};
 
-use crate::fault::CaseFault;
+use crate::fault::{CaseFault, CaseRefusal};
 
 impl CaseFault {
+    // The refusal of a field that has the fault.
+    pub(crate) fn at(self, field: usize) -> CaseRefusal
+        ensures { result ≡ refusal field self }
+    {
+        CaseRefusal { field, fault: self }
+    }
+
     // 12 to 22, by which users know the refusal.
     pub fn number(self) -> u8
         ensures { result ≡ case_number self }

@@ -2,64 +2,26 @@
 ghost use Rattle.std.specs.Prelude.{◌+◌, []};
 ghost use Rattle.tokens.specs.Answers.{texts};
 ghost use Rattle.cases.specs.Readers.{left_of};
-ghost use Rattle.cases.specs.Headings.{Opens, NameTaken, RuleTaken, Heads, HeadsAt, Wanted, heading_reply};
+ghost use Rattle.cases.specs.Headings.{Opens, Heads, Wanted, heading_reply};
 
 use crate::fault::{CaseFault, CaseRefusal};
 use crate::field::{Content, Field};
 use crate::heading::Heading;
 use crate::names::{NAMES, admits};
 use crate::reader::CaseReader;
+use arrayvec::ArrayVec;
 use rules::rule::Rule;
 
-// Refuses a name that may not stand behind these.
-fn take_name(names: &[&[u8]], word: &[u8]) -> Result<(), CaseFault>
-    ensures { NameTaken (texts names.now) word.now result }
-{
-    if admits(names, word) {
-        Ok(())
-    } else {
-        Err(CaseFault::Misplaced)
-    }
-}
-
-// The rule over these names, if there are any.
-fn take_rule(names: &[&[u8]], text: &[u8]) -> Result<Rule, CaseFault>
-    ensures { RuleTaken (texts names.now) text.now result }
-{
-    if names.len() == 0 {
-        return Err(CaseFault::Misplaced);
-    }
-    let rule = Rule::read(text, names)?;
-    Ok(rule)
-}
-
-// The rule, if the field is the rule's, or nothing, if it is one more name.
+// The rule, if the field is the rule's, or nothing, if it is one more name; other fields may not stand here.
 fn head(names: &[&[u8]], field: Field<'_>) -> Result<Option<Rule>, CaseFault>
     ensures { Heads (texts names.now) field.entry.tag field.entry.bytes.now result }
 {
     match field.content()? {
-        Content::Name(word) => {
-            take_name(names, word)?;
-            Ok(None)
-        }
-        Content::Rule(text) => {
-            let rule = take_rule(names, text)?;
-            Ok(Some(rule))
-        }
+        Content::Name(word) if admits(names, word) => Ok(None),
+        Content::Name(_) => Err(CaseFault::Misplaced),
+        Content::Rule(_) if names.is_empty() => Err(CaseFault::Misplaced),
+        Content::Rule(text) => Ok(Some(Rule::read(text, names)?)),
         Content::Entry(_) | Content::Tick(_) => Err(CaseFault::Misplaced),
-    }
-}
-
-// The same, with the number of the field beside a fault.
-fn head_at(names: &[&[u8]], field: Field<'_>) -> Result<Option<Rule>, CaseRefusal>
-    ensures { HeadsAt (texts names.now) field.entry.number field.entry.tag field.entry.bytes.now result }
-{
-    match head(names, field) {
-        Ok(found) => Ok(found),
-        Err(fault) => Err(CaseRefusal {
-            field: field.number,
-            fault,
-        }),
     }
 }
 
@@ -67,13 +29,8 @@ fn head_at(names: &[&[u8]], field: Field<'_>) -> Result<Option<Rule>, CaseRefusa
 fn wanted<'a>(reader: &mut CaseReader<'a>) -> Result<Field<'a>, CaseRefusal>
     ensures { Wanted reader.old result reader.new }
 {
-    match reader.next()? {
-        Some(field) => Ok(field),
-        None => Err(CaseRefusal {
-            field: reader.number + 1,
-            fault: CaseFault::Misplaced,
-        }),
-    }
+    let next = reader.next()?;
+    next.ok_or(CaseFault::Misplaced.at(reader.number + 1))
 }
 
 impl<'a> CaseReader<'a> {
@@ -81,16 +38,17 @@ impl<'a> CaseReader<'a> {
     pub fn heading(&mut self) -> Result<Heading, CaseRefusal>
         ensures { Opens (self.old.number + 1) [] (left_of self.old) (heading_reply result self.new) }
     {
-        let mut names: [&'a [u8]; NAMES] = [b""; NAMES];
-        let mut count = 0;
+        let mut names: ArrayVec<&'a [u8], NAMES> = ArrayVec::new();
         loop {
             let field = wanted(self)?;
-            let found = head_at(&names[0..count], field)?;
+            let found = head(names.as_slice(), field).map_err(|fault| fault.at(field.number))?;
             if let Some(rule) = found {
-                return Ok(Heading { lines: count, rule });
+                return Ok(Heading {
+                    lines: names.len(),
+                    rule,
+                });
             }
-            names[count] = field.bytes;
-            count += 1;
+            names.push(field.bytes);
         }
     }
 }

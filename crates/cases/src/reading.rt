@@ -23,28 +23,19 @@ impl<'a> CaseReader<'a> {
     pub fn next(&mut self) -> Result<Option<Field<'a>>, CaseRefusal>
         ensures { Next self.old result self.new }
     {
-        let at = self.at;
         let bytes = self.bytes;
-        let here = &bytes[at..];
-        if here.len() == 0 {
+        let here = &bytes[self.at..];
+        if here.is_empty() {
             return Ok(None);
         }
         let number = self.number + 1;
+        let cut_short = CaseFault::BadField.at(number);
         let [tag, hi, lo, rest @ ..] = here else {
-            return Err(CaseRefusal {
-                field: number,
-                fault: CaseFault::BadField,
-            });
+            return Err(cut_short);
         };
-        let size = (*hi as usize) * 256 + (*lo as usize);
-        if rest.len() < size {
-            return Err(CaseRefusal {
-                field: number,
-                fault: CaseFault::BadField,
-            });
-        }
-        let (body, _behind) = rest.split_at(size);
-        self.at = at + 3 + size;
+        let size = usize::from(u16::from_be_bytes([*hi, *lo]));
+        let (body, _behind) = rest.split_at_checked(size).ok_or(cut_short)?;
+        self.at += 3 + size;
         self.number = number;
         Ok(Some(Field {
             number,

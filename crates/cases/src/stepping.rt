@@ -9,17 +9,14 @@ use crate::field::{Content, Field};
 use crate::reader::CaseReader;
 
 // The most bytes of a case.
-const CASE_BYTES: usize = 16_384;
+pub const CASE_BYTES: usize = 16_384;
 
 // Refuses a case that is too long, before any field is read.
 pub fn check_size(case: &[u8]) -> Result<(), CaseRefusal>
     ensures { Sized case.now result }
 {
     if case.len() > CASE_BYTES {
-        return Err(CaseRefusal {
-            field: 0,
-            fault: CaseFault::TooLong,
-        });
+        return Err(CaseFault::TooLong.at(0));
     }
     Ok(())
 }
@@ -43,15 +40,10 @@ impl<'a> CaseReader<'a> {
         let Some(field) = self.next()? else {
             return Ok(None);
         };
-        match call_of(field) {
-            Ok(call) => Ok(Some(Step {
-                field: field.number,
-                call,
-            })),
-            Err(fault) => Err(CaseRefusal {
-                field: field.number,
-                fault,
-            }),
-        }
+        let call = call_of(field).map_err(|fault| fault.at(field.number))?;
+        Ok(Some(Step {
+            field: field.number,
+            call,
+        }))
     }
 }

@@ -3,29 +3,16 @@
 
 ghost use Rattle.std.specs.Prelude.{◌≤◌, length, IfOk};
 
-use case_lines::cells::Cells;
+use case_lines::cells::{
+    BLANK_MARK, BLANK_WANT, Cells, MARKS, PIECES, ROWS, WANTS, blank_piece, blank_row,
+};
 use case_lines::listing::list_case;
-use grades::grade::Grade;
-use grades::margin::Margin;
-use grades::range::Range;
-use grades::truth::Truth;
-use meaning::mark::Mark;
-use meaning::reading::Reading;
-use pieces::piece::Piece;
+use cases::stepping::CASE_BYTES;
 use std::io;
 use std::io::Read;
 
 // One byte more than a case may have, so that a longer one is seen to be too long.
-const CASE_BYTES: usize = 16_385;
-
-// Cells for the pieces of 16 lines, for the row lists of each grade, for the want lists, and for the marks.
-const PIECES: usize = 1024;
-
-const ROWS: usize = 1024;
-
-const WANTS: usize = 1024;
-
-const MARKS: usize = 256;
+const INPUT_BYTES: usize = CASE_BYTES + 1;
 
 // Fills the buffer from the source, up to the source's end, and answers how many bytes came.
 fn fill(source: &mut impl Read, buffer: &mut [u8]) -> io::Result<usize>
@@ -43,41 +30,19 @@ fn fill(source: &mut impl Read, buffer: &mut [u8]) -> io::Result<usize>
 }
 
 fn main(rt: HostRuntime) -> io::Result<()> {
-    let mut case = [0u8; CASE_BYTES];
+    let mut case = [0u8; INPUT_BYTES];
     let size = fill(&mut rt.stdin(), &mut case)?;
-    let mut pieces = [Piece {
-        start: 0,
-        value: Reading::widest(),
-    }; PIECES];
-    let mut truths = [Piece {
-        start: 0,
-        value: Range {
-            lower: Truth::lowest(),
-            upper: Truth::highest(),
-        },
-    }; ROWS];
-    let mut margins = [Piece {
-        start: 0,
-        value: Range {
-            lower: Margin::lowest(),
-            upper: Margin::highest(),
-        },
-    }; ROWS];
-    let mut wants = [Piece {
-        start: 0,
-        value: false,
-    }; WANTS];
-    let mut marks = [Mark {
-        row: 0,
-        first: 0,
-        after: 0,
-    }; MARKS];
+    let mut pieces = [blank_piece(); PIECES];
+    let mut truths = [blank_row(); ROWS];
+    let mut margins = [blank_row(); ROWS];
+    let mut wants = [BLANK_WANT; WANTS];
+    let mut marks = [BLANK_MARK; MARKS];
     let cells = Cells {
         truths: &mut truths,
         margins: &mut margins,
         wants: &mut wants,
         marks: &mut marks,
     };
-    let text = list_case(&case[0..size], &mut pieces, cells, rt.alloc())?;
+    let text = list_case(&case[..size], &mut pieces, cells, rt.alloc())?;
     print!(rt; "{text}")
 }

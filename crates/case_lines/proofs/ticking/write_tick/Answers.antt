@@ -1,33 +1,24 @@
-use Rattle.std.proofs.Common.{ℕ, length, take, string_bytes, ap, arith}
-use native.Mathlib.Nat.{sub-zero}
+use Rattle.std.proofs.Common.{ℕ, List, string_bytes, subst}
+use Rattle.grades.specs.Truths.{truths}
+use Rattle.grades.specs.Worth.{worth}
 use Rattle.rules.specs.Texts.{table_of}
+use Rattle.meaning.specs.Outcomes.{outcome_of_lem}
 use Rattle.jobs.specs.Jobs.{state_of}
-use Rattle.case_lines.proofs.Ticked.{truth_refused, margin_refused, marks_refused, told}
+use Rattle.case_lines.specs.Lines.{refused_line, verdict_line}
+use Rattle.case_lines.specs.Writes.{Adds}
+use Rattle.case_lines.specs.Listings.{Ticks, counts}
+use Rattle.case_lines.proofs.Adding.{some}
+use Rattle.case_lines.proofs.Ticked.{counted}
 use Rattle.case_lines.proofs.ticking.write_tick.Goals as goal
 
-pub returns-in-Err : goal.returns-in-Err
-returns-in-Err c =
-    truth_refused (length c.args.truths.now) (length c.args.margins.now) (length c.args.wants.now) (length c.args.marks.now) (table_of c.args.rule.now) c.args.field c.args.tick (state_of c.args.job.now)
-    (string_bytes c.args.text.now) (string_bytes c.write_refused.new.text) c.write_refused.result _ c.number.result c.number.ensures c.in-Err.ensures.turn.0 c.write_refused.ensures
+pub returns-in-Ok-clause-prints : goal.returns-in-Ok-clause-prints
+returns-in-Ok-clause-prints c =
+    let told = c.in-Ok.told in
+    let line = λ (n : ℕ). verdict_line c.args.tick (outcome_of_lem (worth truths (λ v. v.holds) told.verdict)) told.margin.lower.number told.margin.upper.number n in
+    some (Ticks (counts c.args.cells.now) (table_of c.args.rule.now) c.args.field c.args.tick (state_of c.args.job.now)) (string_bytes c.args.text.now) (string_bytes c.write_told.new.text) c.write_told.result _ (c.in-Ok.ensures.told c.args.field)
+    (subst (λ (v : List ℕ). Adds (string_bytes c.args.text.now) c.write_told.result v (string_bytes c.write_told.new.text)) (counted line told.marks c.tell.new.self.marks.now c.in-Ok.ensures.fits) c.write_told.ensures)
 
-pub returns-in-Err-judge : goal.returns-in-Err-judge
-returns-in-Err-judge c =
-    margin_refused (length c.args.truths.now) (length c.args.margins.now) (length c.args.wants.now) (length c.args.marks.now) (table_of c.args.rule.now) c.args.field c.args.tick (state_of c.args.job.now)
-    (string_bytes c.args.text.now) (string_bytes c.write_refused-in-Err-judge.new.text) c.write_refused-in-Err-judge.result _ c.in-Ok.ensures.turn.0 _ c.number-in-Err-judge.result c.number-in-Err-judge.ensures c.in-Err-judge.ensures.turn.0 c.write_refused-in-Err-judge.ensures
-
-pub returns-in-Err-mark : goal.returns-in-Err-mark
-returns-in-Err-mark c =
-    marks_refused (length c.args.truths.now) (length c.args.margins.now) (length c.args.wants.now) (length c.args.marks.now) (table_of c.args.rule.now) c.args.field c.args.tick (state_of c.args.job.now)
-    (string_bytes c.args.text.now) (string_bytes c.write_refused-in-Err-mark.new.text) c.write_refused-in-Err-mark.result _ c.in-Ok.ensures.turn.0 _ c.in-Ok-judge.ensures.turn.0
-    (length c.judge.new.cells) c.judge.auto.cells _ c.number-in-Err-mark.result c.number-in-Err-mark.ensures c.in-Err-mark.ensures.turn.0 c.write_refused-in-Err-mark.ensures
-
-pub slice_bounds-write_told-end : goal.slice_bounds-write_told-end
-slice_bounds-write_told-end c =
-    let written = c.in-Ok-mark.ensures.cells.1.1.1 in
-    omega (arith, written.1, written.2.fits, c.mark.auto.marks)
-
-pub returns : goal.returns
-returns c =
-    told (length c.args.truths.now) (length c.args.margins.now) (length c.args.wants.now) (length c.args.marks.now) (table_of c.args.rule.now) c.args.field c.args.tick (state_of c.args.job.now)
-    (string_bytes c.args.text.now) (string_bytes c.write_told.new.text) c.write_told.result _ c.in-Ok.ensures.turn.0 _ c.in-Ok-judge.ensures.turn.0
-    (length c.judge.new.cells) c.judge.auto.cells _ _ (ap (λ (n : ℕ). take n c.mark.new.marks) (sub-zero c.in-Ok-mark.marking.marks)) c.in-Ok-mark.ensures.turn.0 c.write_told.ensures
+pub returns-in-Err-clause-prints : goal.returns-in-Err-clause-prints
+returns-in-Err-clause-prints c =
+    some (Ticks (counts c.args.cells.now) (table_of c.args.rule.now) c.args.field c.args.tick (state_of c.args.job.now)) (string_bytes c.args.text.now) (string_bytes c.write_refused.new.text) c.write_refused.result (refused_line c.number.result c.args.field)
+    (rw c.number.ensures (c.in-Err.ensures.told c.args.field)) c.write_refused.ensures

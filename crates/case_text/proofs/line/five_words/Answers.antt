@@ -18,9 +18,9 @@ pub returns-in_err-four : goal.returns-in_err-four
 returns-in_err-four c =
     rw c.from_residual-in_err-four.ensures (λ five. omega (arith, five, count_cut c.in_ok-one.ensures, count_cut c.in_ok-two.ensures, count_cut c.in_ok-three.ensures, count_one c.in_ok-three.three.rest.now c.in_err-four.ensures))
 
-pub returns-in-Some : goal.returns-in-Some
-returns-in-Some c five =
-    omega (arith, five, count_cut c.in_ok-one.ensures, count_cut c.in_ok-two.ensures, count_cut c.in_ok-three.ensures, count_cut c.in_ok-four.ensures, count_cut c.in-Some.ensures, pieces_some 32 c.in-Some.field-0.rest.now)
+pub returns-in_default : goal.returns-in_default
+returns-in_default c five =
+    omega (arith, five, count_cut c.in_ok-one.ensures, count_cut c.in_ok-two.ensures, count_cut c.in_ok-three.ensures, count_cut c.in_ok-four.ensures, count_cut c.in_default.ensures, pieces_some 32 c.in_default.field-0.rest.now)
 
 pub returns : goal.returns
-returns c = five_is c.in_ok-four.four.rest.now c.in_ok-one.ensures c.in_ok-two.ensures c.in_ok-three.ensures c.in_ok-four.ensures c.in_default.ensures
+returns c = five_is c.in_ok-four.four.rest.now c.in_ok-one.ensures c.in_ok-two.ensures c.in_ok-three.ensures c.in_ok-four.ensures c.in-None.ensures

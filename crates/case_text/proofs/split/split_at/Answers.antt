@@ -1,8 +1,9 @@
-use Rattle.case_text.proofs.Cutting.{cut_none, cut_found}
+use Rattle.std.proofs.Common.{◌≡◌, ◌≢◌, rules}
+use Rattle.std.proofs.lemmas.Iterator.{IsFirst-from_position, YieldsList-from_slice}
+use Rattle.case_text.proofs.Cutting.{cut_found}
 use Rattle.case_text.proofs.split.split_at.Goals as goal
 
-pub returns-then-at-bytes : goal.returns-then-at-bytes
-returns-then-at-bytes c = cut_none _ _ _ c.if-at-bytes.true c.find-at.ensures.before
-
 pub returns : goal.returns
-returns c = cut_found _ _ _ c.if-at-bytes.false c.find-at.ensures.before (c.find-at.ensures.found c.if-at-bytes.false)
+returns c =
+    let first = IsFirst-from_position _ _ c.position.result (λ b. b ≡ c.args.stop) (λ b. b ≢ c.args.stop) c.position.ensures.ran (YieldsList-from_slice c.args.bytes.now c.iter.ensures.rest) (λ x q k. search rules) (λ x q k. search rules) in
+    cut_found c.args.stop c.args.bytes.now c.position.result c.in_ok-at.at c.in_ok-at.was first

@@ -1,21 +1,26 @@
-use Rattle.std.proofs.lemmas.Slice.Eq.{slice_eq-Decides}
+use Rattle.std.proofs.Common.{rules, ◌≡◌, ◌≢◌, true, false, refl, subst}
 use Rattle.std.proofs.lemmas.Bool.{both_ways}
-use Rattle.case_text.proofs.Names.{found, passed_more, passed_all, passed_bytes}
-use Rattle.case_text.proofs.word.line_of.Goals as goal
 use Rattle.std.proofs.lemmas.Bool.Decides.{Decides-eqb}
+use Rattle.std.proofs.lemmas.Slice.Eq.{slice_eq-Decides}
+use Rattle.std.proofs.lemmas.Iterator.{IsFirst-from_position, YieldsList-from_take, YieldsList-from_slice}
+use Rattle.std.proofs.lemmas.Iterator.Consumers.{YieldsList-at}
+use Rattle.tokens.specs.Answers.{texts}
+use Rattle.case_text.specs.Words.{First}
+use Rattle.case_text.specs.Parts.{Reads}
+use Rattle.case_text.proofs.Names.{found}
+use Rattle.case_text.proofs.word.line_of.Goals as goal
 
-pub returns-then-eq : goal.returns-then-eq
-returns-then-eq c =
-    let same = slice_eq-Decides Decides-eqb _ _ _ c.eq.ensures in
-    found _ _ _ _ c.if-line-names.true c.loop-line-test.true c.loop-line.invariant (same.0 c.if-eq.true)
+pub returns-in_err-line : goal.returns-in_err-line
+returns-in_err-line c =
+    let name = c.args.word.now in
+    let refs = c.args.names.now in
+    let first = IsFirst-from_position _ _ c.position.result (λ x. x.now ≡ name) (λ x. x.now ≢ name) c.position.ensures.ran (YieldsList-from_take 256 (YieldsList-at c.take.ensures.source (YieldsList-from_slice refs c.iter.ensures.rest)) c.take.ensures.count) (λ x q k. (slice_eq-Decides Decides-eqb x.now.now name true (search rules)).0 refl) (λ x q k. (search rules, λ e. both_ways _ refl ((slice_eq-Decides Decides-eqb x.now.now name false (search rules)).1 e))) in
+    let none = subst (Reads (First (texts refs) name)) c.in_err-line.was (found refs name c.args.word c.position.result first) in
+    rw c.from_residual.ensures none
 
-pub loop-line-preserved : goal.loop-line-preserved
-loop-line-preserved c =
-    let same = slice_eq-Decides Decides-eqb _ _ _ c.eq.ensures in
-    passed_more _ _ _ _ c.if-line-names.true c.loop-line.invariant (λ e. both_ways _ c.if-eq.false (same.1 e))
-
-pub returns-else-line-names : goal.returns-else-line-names
-returns-else-line-names c = passed_all _ _ _ c.loop-line.invariant c.if-line-names.false
-
-pub returns-after-loop-line : goal.returns-after-loop-line
-returns-after-loop-line c = passed_bytes _ _ _ c.loop-line.invariant c.loop-line-test.false
+pub returns : goal.returns
+returns c =
+    let name = c.args.word.now in
+    let refs = c.args.names.now in
+    let first = IsFirst-from_position _ _ c.position.result (λ x. x.now ≡ name) (λ x. x.now ≢ name) c.position.ensures.ran (YieldsList-from_take 256 (YieldsList-at c.take.ensures.source (YieldsList-from_slice refs c.iter.ensures.rest)) c.take.ensures.count) (λ x q k. (slice_eq-Decides Decides-eqb x.now.now name true (search rules)).0 refl) (λ x q k. (search rules, λ e. both_ways _ refl ((slice_eq-Decides Decides-eqb x.now.now name false (search rules)).1 e))) in
+    subst (Reads (First (texts refs) name)) c.in_ok-line.was (found refs name c.args.word c.position.result first)

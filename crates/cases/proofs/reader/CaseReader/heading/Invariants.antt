@@ -1,4 +1,4 @@
-use Rattle.std.proofs.Common.{◌≡◌, ◌+◌, ◌-◌, ◌≤◌, [], length, take, Result}
+use Rattle.std.proofs.Common.{◌+◌, ◌-◌, ◌≤◌, [], length, Result}
 use Rattle.tokens.specs.Answers.{texts}
 use Rattle.cases.specs.declared.fault.CaseRefusal.{CaseRefusal}
 use Rattle.cases.specs.Readers.{left_of}
@@ -8,9 +8,8 @@ use Rattle.cases.proofs.reader.CaseReader.heading.Given as goal
 -- what the names so far and the rest answer, the whole answers
 abbrev pub invariant-loop-field : goal.invariant-loop-field
 invariant-loop-field l =
-    (l.count ≤ 16)
-    × (length l.names ≡ 16)
-    × ((r : Result Opened CaseRefusal) → Opens (l.self.number + 1) (texts (take l.count l.names)) (left_of l.self) r → Opens (l.initial.self.number + 1) [] (left_of l.initial.self) r)
+    (length l.names.items ≤ 16)
+    × ((r : Result Opened CaseRefusal) → Opens (l.self.number + 1) (texts l.names.items) (left_of l.self) r → Opens (l.initial.self.number + 1) [] (left_of l.initial.self) r)
 
 abbrev pub decreases-loop-field : goal.decreases-loop-field
-decreases-loop-field l = 17 - l.count
+decreases-loop-field l = 17 - length l.names.items
