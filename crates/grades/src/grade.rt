@@ -14,6 +14,7 @@ pub trait Grade: Copy {
     fn at_most(self, other: Self) -> bool
         ensures { Tells result (kind.below (value self) (value other)) };
 
+    // Not `==`: it says yes exactly where both stand for one value, and no law of `PartialEq` says so much.
     fn same(self, other: Self) -> bool
         ensures { Tells result (value self ≡ value other) };
 

@@ -9,7 +9,7 @@ ghost use Rattle.grades.specs.Lawful.{margins_lawful};
 use crate::gap::Gap;
 use crate::grade::{Grade, one_value};
 
-// A whole number from -1,000,000 to 1,000,000.
+// A whole number from -1,000,000 to 1,000,000. It is a type beside `Gap`, since a gap is measured and is no grade; its clauses read the number straight from it.
 #[derive(Clone, Copy)]
 pub struct Margin {
     number: i32,

@@ -15,6 +15,7 @@ impl<'a> Job<'a> {
         ensures behind { drop (64 * line_count lines (length cells.old)) (cells_of result) ≡ drop (64 * line_count lines (length cells.old)) cells.old }
     {
         let count = lines.min(MOST_LINES).min(cells.len() / LINE_CELLS);
+        // Only the first of a line's cells is written, and the line's number gives its place.
         for k in 0..count {
             cells[LINE_CELLS * k] = Piece {
                 start: 0,

@@ -88,6 +88,7 @@ fn held_from<A: YesNo, B: YesNo, C: YesNo>(
     };
     let mut c = t;
     let mut p = first(asks, true, s, limit.max(s));
+    // From run to run.
     while p < limit {
         if t < p {
             return (false, Some(p));

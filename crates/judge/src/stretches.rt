@@ -16,6 +16,7 @@ pub(crate) fn mark_row<S: YesNo>(
 ) -> Result<usize, Full>
     ensures { MarkedRow (S.YesNo.f source.now) limit row marks.old used marks.new result }
 {
+    // From stretch to stretch; the cells are the caller's, so nothing is allocated, and places are counted.
     let mut end = used;
     let mut start = first(source, true, 0, limit);
     while start < limit {

@@ -1,4 +1,4 @@
-// What a range is tried for.
+// What a range is tried for. It has a name, since the clauses of want lists say which of the three is meant.
 #[derive(Clone, Copy)]
 pub(crate) enum Trial {
     // Its ends differ.

@@ -19,6 +19,7 @@ pub(crate) fn first<S: YesNo>(source: &S, value: bool, from: u32, end: u32) -> u
     requires { from ≤ end }
     ensures { First (S.YesNo.f source.now) value from end result }
 {
+    // From change to change, and not from tick to tick.
     let mut t = from;
     while t < end {
         let (here, next) = source.step(t);
@@ -36,6 +37,7 @@ pub(crate) fn clear_from<S: YesNo>(source: &S, from: u32, u: u32) -> u32
     ensures { Clear (S.YesNo.f source.now) from u result }
 {
     let mut s = from;
+    // From change to change, and not from tick to tick.
     let mut t = from;
     while t < u {
         let (here, next) = source.step(t);

@@ -2,7 +2,8 @@
 ghost use Rattle.std.specs.Prelude.{ℕ, Bool};
 ghost use Rattle.pieces.specs.Ticks.{Steady};
 
-// What says yes or no at each tick, and up to when it stays so.
+// What says yes or no at each tick, and up to when it stays so: the pair of a value and the next change that every look-up answers. It is a trait
+// beside `Signal`, whose members may not name what the bound of its parameter brings, so only here can clauses speak of the yes itself.
 pub(crate) trait YesNo {
     ghost f: { Self → ℕ → Bool };
 

@@ -167,6 +167,7 @@ pub fn tokenize(text: &[u8], names: &[&[u8]]) -> Result<Tokens, TokenFault>
     }
     let mut tokens = Tokens::new();
     let mut at = run_end(text, 0, is_blank);
+    // From word to word, which no range counts.
     while at < text.len() {
         let word = word_at(text, at, names)?;
         tokens.push(at, word.token);

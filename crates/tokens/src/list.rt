@@ -5,7 +5,7 @@ ghost use Rattle.arrayvec.specs.ArrayVec.{ArrayVec};
 use super::token::Token;
 use arrayvec::ArrayVec;
 
-// A token takes a byte at least, so 1,024 bytes have no more tokens than that. Each has its place at its own number.
+// A token takes a byte at least, so 1,024 bytes have no more tokens than that. Each has its place at its own number, in a vector beside them: the readers of a rule go over the tokens alone.
 #[derive(Drop)]
 pub struct Tokens {
     tokens: ArrayVec<Token, 1024>,
