@@ -178,11 +178,10 @@ pub fn begin_alike<C: Cell>(one: &[C], other: &[C], used: usize) -> bool {
     }
 }
 
-// Whether so many cells hold the list, and no more.
-pub(crate) fn hold<C: Cell>(cells: &[C], used: usize, list: &[C::Held]) -> bool {
-    used == list.len()
-        && used <= cells.len()
-        && cells[..used]
+// Whether the cells hold the list and no more.
+pub(crate) fn hold<C: Cell>(cells: &[C], list: &[C::Held]) -> bool {
+    cells.len() == list.len()
+        && cells
             .iter()
             .zip(list)
             .all(|(cell, held)| cell.held() == *held)

@@ -57,7 +57,7 @@ impl Question<'_, '_> {
         let used = whole.len();
         let list = row_list(self.heap, self.rule.rows().len(), values)?;
         ensure(verdict == self.verdict(values), Mismatch::Verdict)?;
-        ensure(hold(cells, used, list.as_slice()), Mismatch::RowLists)?;
+        ensure(hold(whole, list.as_slice()), Mismatch::RowLists)?;
         ensure(blank_from(cells, used), Mismatch::Behind)?;
         self.judge_in(whole, used)?;
         self.judge_in(whole, used.saturating_sub(1))?;

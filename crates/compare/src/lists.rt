@@ -62,6 +62,7 @@ pub(crate) fn mark_list(
     wants: &Wants,
 ) -> Result<Vec<Mark>, AllocError> {
     let mut list = Vec::new(heap);
+    // By number: a mark names its row so.
     for row in 0..rows.len() {
         let mut stretches = Vec::new(heap);
         push_pieces(&mut stretches, WANT_TICKS as u32, |t| {

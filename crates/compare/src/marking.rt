@@ -56,23 +56,12 @@ impl Question<'_, '_> {
         let wants = Wants::of::<G::Scale>(rows, values, self.tick as usize);
         let want_list = want_list(self.heap, rows.len(), &wants)?;
         let mark_list = mark_list(self.heap, rows, values, &wants)?;
-        let lent = &whole.lent;
+        let written_wants = written(whole.lent.wants.as_slice());
         ensure(
-            hold(
-                lent.wants.as_slice(),
-                whole.used.wants,
-                want_list.as_slice(),
-            ),
+            hold(written_wants, want_list.as_slice()),
             Mismatch::WantLists,
         )?;
-        ensure(
-            hold(
-                lent.marks.as_slice(),
-                whole.used.marks,
-                mark_list.as_slice(),
-            ),
-            Mismatch::Marks,
-        )
+        ensure(hold(whole.marks(), mark_list.as_slice()), Mismatch::Marks)
     }
 
     // Holds a marking with room to spare, of so many marks, against the reference.
@@ -83,14 +72,11 @@ impl Question<'_, '_> {
         values: &Values,
     ) -> Result<(), Mismatch> {
         let list = row_list(self.heap, self.rule.rows().len(), values)?;
-        let lent = &whole.lent;
+        let written_rows = written(whole.lent.rows.as_slice());
         ensure(whole.verdict == self.verdict(values), Mismatch::Verdict)?;
         ensure(marks == whole.used.marks, Mismatch::Marks)?;
-        ensure(
-            hold(lent.rows.as_slice(), whole.used.rows, list.as_slice()),
-            Mismatch::RowLists,
-        )?;
-        ensure(lent.blank_behind(whole.used), Mismatch::Behind)?;
+        ensure(hold(written_rows, list.as_slice()), Mismatch::RowLists)?;
+        ensure(whole.lent.blank_behind(whole.used), Mismatch::Behind)?;
         self.compare_wants(whole, values)
     }
 

@@ -87,6 +87,7 @@ impl Wants {
             wants.want(last, tick..tick.saturating_add(1));
         }
         for (k, row) in rows.iter().enumerate().rev() {
+            // By number: what is wanted at a tick changes the table that is read.
             for t in tick..WANT_TICKS {
                 if wants.at(k, t) && !values.at(k, t).settled() {
                     wants.spread::<S>(*row, values, t);

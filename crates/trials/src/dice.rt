@@ -26,7 +26,7 @@ impl Dice {
         self.below(bound) == 0
     }
 
-    // One of the numbers; 0 if there is none.
+    // One of the numbers; 0 if there is none, which no caller asks.
     pub(crate) fn pick(&mut self, numbers: &[i32]) -> i32 {
         let k = self.below(numbers.len().min(1000) as u32) as usize;
         numbers.get(k).copied().unwrap_or(0)
