@@ -258,9 +258,6 @@ pub record Grown (k l : Level) (ts : List Token) (at depth next0 : ℕ) (old : T
 pub sofar_e : {ts : List Token} {at depth : ℕ} {before old : Table} {next root : ℕ} → Built meet ts at depth before old next root → Sofar expr ts at depth before old next
 sofar_e b = record { phrase = one_meet b.phrase; text = b.read.text; place = ends_at b.phrase b.read; grows = b.grows; few = b.few }
 
-pub begun_e : {ts : List Token} {at depth : ℕ} {before old : Table} {next root : ℕ} → Built meet ts at depth before old next root → Grown meet expr ts at depth next old next root old
-begun_e b = record { on = omega arith; within = b.read.within; over = b.read.over; last = b.last; few = omega arith; grows = λ before s. s }
-
 pub stop_e : {ts : List Token} {at depth n0 r0 : ℕ} {before old new : Table} {next root i : ℕ} → Built meet ts at depth before old n0 r0 → Grown meet expr ts at depth n0 old next root new → next < length ts → get_or ts next Or ≡ Or → StopsAt meet ts (next + 1) i → StopsAt expr ts at i
 stop_e {ts} {at} {before = before} {next = next} b g lt is s =
     let f = g.grows before (sofar_e b) in
@@ -303,9 +300,6 @@ fail_e s = record { on = s.on; within = s.within; stops = first_meet s.stops }
 -- meets
 pub sofar_m : {ts : List Token} {at depth : ℕ} {before old : Table} {next root : ℕ} → Built part ts at depth before old next root → Sofar meet ts at depth before old next
 sofar_m b = record { phrase = one_part b.phrase; text = b.read.text; place = ends_at b.phrase b.read; grows = b.grows; few = b.few }
-
-pub begun_m : {ts : List Token} {at depth : ℕ} {before old : Table} {next root : ℕ} → Built part ts at depth before old next root → Grown part meet ts at depth next old next root old
-begun_m b = record { on = omega arith; within = b.read.within; over = tt; last = b.last; few = omega arith; grows = λ before s. s }
 
 pub stop_m : {ts : List Token} {at depth n0 r0 : ℕ} {before old new : Table} {next root i : ℕ} → Built part ts at depth before old n0 r0 → Grown part meet ts at depth n0 old next root new → next < length ts → get_or ts next Or ≡ And → StopsAt part ts (next + 1) i → StopsAt meet ts at i
 stop_m {ts} {at} {before = before} {next = next} b g lt is s =

@@ -39,6 +39,14 @@ fn is_name_byte(byte: &u8) -> bool
     byte.is_ascii_lowercase() || byte.is_ascii_digit()
 }
 
+// A place of a text at which a byte stands.
+#[derive(Clone, Copy)]
+struct Place<'a> {
+    text: &'a [u8],
+    at: usize,
+    ghost within: { at < length text.now },
+}
+
 // Where the run of bytes that pass the test ends that begins at `at`; it may be empty.
 fn run_end<F: Fn(&u8) -> bool>(text: &[u8], at: usize, passes: F) -> usize
     requires within { at ≤ length text.now }
@@ -89,37 +97,6 @@ fn order(byte: u8) -> Option<Token>
     }
 }
 
-// The symbol that begins at `at`, where neither a blank nor a name nor a number does.
-fn symbol_at(text: &[u8], at: usize) -> Result<Word, TokenFault>
-    requires within { at < length text.now }
-    requires other { (Begins Blank (drop at text.now) → ⊥) × (Begins Small (drop at text.now) → ⊥) × (Begins Digit (drop at text.now) → ⊥) }
-    ensures { (names : List (List ℕ)) → ReadAt names text.now at result }
-{
-    if let Some(token) = sign(text[at]) {
-        return Ok(Word { token, end: at + 1 });
-    }
-    if at + 1 < text.len() && text[at + 1] == b'=' {
-        if let Some(token) = order(text[at]) {
-            return Ok(Word { token, end: at + 2 });
-        }
-    }
-    Err(TokenFault::Malformed { at })
-}
-
-// The name that begins at `at`.
-fn name_at(text: &[u8], at: usize, names: &[&[u8]]) -> Result<Word, TokenFault>
-    requires within { at < length text.now }
-    requires letter { Begins Small (drop at text.now) }
-    ensures { ReadAt (texts names.now) text.now at result }
-{
-    let end = run_end(text, at, is_name_byte);
-    if end - at > NAME_BYTES {
-        return Err(TokenFault::Malformed { at });
-    }
-    let token = Token::Name(line_of(names, &text[at..end]));
-    Ok(Word { token, end })
-}
-
 // Whether so many digits are a number, of which the first is `first`.
 fn well_formed(first: u8, digits: usize) -> bool
     ensures { Decides result ((digits ≤ 9) × (first ≡ 48 → digits ≤ 1)) }
@@ -127,34 +104,67 @@ fn well_formed(first: u8, digits: usize) -> bool
     digits <= DIGITS && (first != b'0' || digits <= 1)
 }
 
-// The number that begins at `at`.
-fn number_at(text: &[u8], at: usize) -> Result<Word, TokenFault>
-    requires within { at < length text.now }
-    requires digit { Begins Digit (drop at text.now) }
-    ensures { (names : List (List ℕ)) → ReadAt names text.now at result }
-{
-    let end = run_end(text, at, u8::is_ascii_digit);
-    match number_of(&text[at..end]) {
-        Some(value) if well_formed(text[at], end - at) => Ok(Word {
-            token: Token::Number(value as u32),
-            end,
-        }),
-        _ => Err(TokenFault::Malformed { at }),
+impl Place<'_> {
+    // The symbol that begins here, where neither a blank nor a name nor a number does.
+    fn symbol(&self) -> Result<Word, TokenFault>
+        requires { (Begins Blank (drop self.now.at self.now.text.now) → ⊥) × (Begins Small (drop self.now.at self.now.text.now) → ⊥) × (Begins Digit (drop self.now.at self.now.text.now) → ⊥) }
+        ensures { (names : List (List ℕ)) → ReadAt names self.now.text.now self.now.at result }
+    {
+        let at = self.at;
+        if let Some(token) = sign(self.text[at]) {
+            return Ok(Word { token, end: at + 1 });
+        }
+        if self.text.get(at + 1) == Some(&b'=') {
+            if let Some(token) = order(self.text[at]) {
+                return Ok(Word { token, end: at + 2 });
+            }
+        }
+        Err(TokenFault::Malformed { at })
     }
-}
 
-// The word that begins at `at`, where no blank stands.
-fn word_at(text: &[u8], at: usize, names: &[&[u8]]) -> Result<Word, TokenFault>
-    requires within { at < length text.now }
-    requires solid { Begins Blank (drop at text.now) → ⊥ }
-    ensures { ReadAt (texts names.now) text.now at result }
-{
-    if text[at].is_ascii_digit() {
-        number_at(text, at)
-    } else if text[at].is_ascii_lowercase() {
-        name_at(text, at, names)
-    } else {
-        symbol_at(text, at)
+    // The name that begins here.
+    fn name(&self, names: &[&[u8]]) -> Result<Word, TokenFault>
+        requires { Begins Small (drop self.now.at self.now.text.now) }
+        ensures { ReadAt (texts names.now) self.now.text.now self.now.at result }
+    {
+        let at = self.at;
+        let end = run_end(self.text, at, is_name_byte);
+        if end - at > NAME_BYTES {
+            return Err(TokenFault::Malformed { at });
+        }
+        let token = Token::Name(line_of(names, &self.text[at..end]));
+        Ok(Word { token, end })
+    }
+
+    // The number that begins here.
+    fn number(&self) -> Result<Word, TokenFault>
+        requires { Begins Digit (drop self.now.at self.now.text.now) }
+        ensures { (names : List (List ℕ)) → ReadAt names self.now.text.now self.now.at result }
+    {
+        let at = self.at;
+        let end = run_end(self.text, at, u8::is_ascii_digit);
+        match number_of(&self.text[at..end]) {
+            Some(value) if well_formed(self.text[at], end - at) => Ok(Word {
+                token: Token::Number(value as u32),
+                end,
+            }),
+            _ => Err(TokenFault::Malformed { at }),
+        }
+    }
+
+    // The word that begins here, where no blank stands.
+    fn word(&self, names: &[&[u8]]) -> Result<Word, TokenFault>
+        requires { Begins Blank (drop self.now.at self.now.text.now) → ⊥ }
+        ensures { ReadAt (texts names.now) self.now.text.now self.now.at result }
+    {
+        let first = self.text[self.at];
+        if first.is_ascii_digit() {
+            self.number()
+        } else if first.is_ascii_lowercase() {
+            self.name(names)
+        } else {
+            self.symbol()
+        }
     }
 }
 
@@ -169,7 +179,8 @@ pub fn tokenize(text: &[u8], names: &[&[u8]]) -> Result<Tokens, TokenFault>
     let mut at = run_end(text, 0, is_blank);
     // From word to word, which no range counts.
     while at < text.len() {
-        let word = word_at(text, at, names)?;
+        let place = Place { text, at };
+        let word = place.word(names)?;
         tokens.push(at, word.token);
         at = run_end(text, word.end, is_blank);
     }

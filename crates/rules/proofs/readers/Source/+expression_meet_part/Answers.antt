@@ -2,15 +2,12 @@ use Rattle.std.proofs.Common.{refl, ◌∙◌}
 use Rattle.rules.specs.Grammar.{span}
 use Rattle.rules.specs.Readers.{NoEnd}
 use Rattle.rules.proofs.Places.{at_end, at_token}
-use Rattle.rules.proofs.Growth.{begun_e, stop_e, end_e, over_e, grow_e, fail_e, begun_m, stop_m, end_m, over_m, grow_m, fail_m, p_end, p_rest, p_not_stop, p_not, p_window, p_modal_stop, p_modal, p_open, p_no_end, p_brackets, p_until_window, p_second_stop, p_no_close, p_until}
+use Rattle.rules.proofs.Growth.{stop_e, end_e, over_e, grow_e, fail_e, stop_m, end_m, over_m, grow_m, fail_m, p_end, p_rest, p_not_stop, p_not, p_window, p_modal_stop, p_modal, p_open, p_no_end, p_brackets, p_until_window, p_second_stop, p_no_close, p_until}
 use Rattle.rules.proofs.Stopping.{stopped}
 use Rattle.rules.proofs.readers.Source.+expression_meet_part.Goals as goal
 
 pub expression-returns-in_err-left : goal.expression-returns-in_err-left
 expression-returns-in_err-left t c = stopped _ _ _ _ c.from_residual.ensures.1 (fail_e c.in_err-left.ensures)
-
-pub expression-loop-table-init : goal.expression-loop-table-init
-expression-loop-table-init t c = begun_e c.in_ok-left.ensures
 
 pub expression-returns-in_err-right : goal.expression-returns-in_err-right
 expression-returns-in_err-right t c =
@@ -29,9 +26,6 @@ expression-returns t c =
 
 pub meet-returns-in_err-left : goal.meet-returns-in_err-left
 meet-returns-in_err-left t c = stopped _ _ _ _ c.from_residual.ensures.1 (fail_m c.in_err-left.ensures)
-
-pub meet-loop-table-init : goal.meet-loop-table-init
-meet-loop-table-init t c = begun_m c.in_ok-left.ensures
 
 pub meet-returns-in_err-right : goal.meet-returns-in_err-right
 meet-returns-in_err-right t c =
