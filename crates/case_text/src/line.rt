@@ -107,7 +107,8 @@ fn enter_of<'a>(names: &[&[u8]], words: &'a [u8]) -> Option<Content<'a>>
     Some(Content::Entry(entry_of(names, words)?))
 }
 
-// What the line says behind lines that gave these names.
+// What the line says behind lines that gave these names. The words are compared one by one: where none of the byte strings of a `match` fits,
+// the proof knows only single bytes.
 pub(crate) fn content_of<'a>(names: &[&[u8]], line: &'a [u8]) -> Option<Content<'a>>
     ensures { ContentOf (texts names.now) line.now result }
 {
