@@ -1,5 +1,5 @@
 -- Cutting a list at the first of a kind of byte, and the pieces that this gives.
-use Rattle.std.proofs.Common.{◌≡◌, ℕ, ◌+◌, ◌-◌, ◌<◌, ◌≢◌, MatchOption, Some, Option, ◌==◌, false, List, [], ◌∷◌, ◌++◌, length, take, drop, sym, refl, ap, ◌∙◌, subst, arith, eq-eqb}
+use Rattle.std.proofs.Common.{◌≡◌, ℕ, ◌+◌, ◌-◌, ◌<◌, ◌≢◌, MatchOption, Some, Option, ◌==◌, false, List, [], ◌∷◌, ◌++◌, length, take, drop, sym, refl, ap, ◌∙◌, arith, eq-eqb}
 use mathlib.Core.List.{head-eq_of_cons-eq, tail-eq_of_cons-eq}
 use Rattle.std.specs.List.{All, AllWithin, HoldsAt}
 use Rattle.std.proofs.ByRecursion.{All-from_get_or, All-weaker}
@@ -31,13 +31,6 @@ one_cut c (a ∷ f) (b ∷ g) r s x y e =
 
 pub same_cut : (c : ℕ) (whole f g r s : List ℕ) → Cut c whole f r → Cut c whole g s → (f ≡ g) × (r ≡ s)
 same_cut c whole f g r s x y = one_cut c f g r s x.clean y.clean (sym x.put ∙ y.put)
-
-not_clean : (c : ℕ) (f r : List ℕ) → Without c (f ++ (c ∷ r)) → ⊥
-not_clean c [] r h = h.0 refl
-not_clean c (b ∷ f) r h = not_clean c f r h.1
-
-pub no_cut : (c : ℕ) (whole f r : List ℕ) → Without c whole → Cut c whole f r → ⊥
-no_cut c whole f r clean x = not_clean c f r (subst (Without c) x.put clean)
 
 -- the pieces, cut by cut
 others : (c : ℕ) (bs : List ℕ) → Without c bs → All (λ b. (b == c) ≡ false) bs
