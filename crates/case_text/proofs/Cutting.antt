@@ -1,11 +1,13 @@
 -- Cutting a list at the first of a kind of byte, and the pieces that this gives.
-use Rattle.std.proofs.Common.{◌≡◌, ℕ, ◌+◌, ◌-◌, ◌<◌, ◌≢◌, MatchOption, Some, Option, Bool, true, false, cond, eqb, List, [], ◌∷◌, ◌++◌, length, take, drop, sym, refl, ap, ◌∙◌, subst, arith, eq-eqb}
+use Rattle.std.proofs.Common.{◌≡◌, ℕ, ◌+◌, ◌-◌, ◌<◌, ◌≢◌, MatchOption, Some, Option, ◌==◌, false, List, [], ◌∷◌, ◌++◌, length, take, drop, sym, refl, ap, ◌∙◌, arith, eq-eqb}
 use mathlib.Core.List.{head-eq_of_cons-eq, tail-eq_of_cons-eq}
-use Rattle.std.specs.List.{AllWithin, HoldsAt}
-use Rattle.std.proofs.ByRecursion.{All-from_get_or}
+use Rattle.std.specs.List.{All, AllWithin, HoldsAt}
+use Rattle.std.proofs.ByRecursion.{All-from_get_or, All-weaker}
+use Rattle.std.proofs.lemmas.List.Elements.{All-from_recursion}
+use Rattle.std.proofs.lemmas.List.Splits.{slice_split_none, slice_split_at, length-slice_split}
 use Rattle.std.proofs.lemmas.List.{take-append-drop, drop_more, get_or-take, length-take-le, take_rest}
 use Rattle.std.proofs.lemmas.Bool.{ne_eqb}
-use Rattle.case_text.specs.Pieces.{onto, pieces, Without, Cut}
+use Rattle.case_text.specs.Pieces.{pieces, Without, Cut}
 
 pub cut_found : (c : ℕ) (bytes : List ℕ) (r : Option ℕ) (at : ℕ) → r ≡ Some at → MatchOption r (AllWithin (λ b. b ≢ c) bytes 0 (length bytes)) (λ i. (i < length bytes) × HoldsAt (λ b. b ≡ c) bytes i × AllWithin (λ b. b ≢ c) bytes 0 i) → Cut c bytes (take at bytes) (take (length bytes - (at + 1)) (drop (at + 1) bytes))
 cut_found c bytes r at is first =
@@ -30,29 +32,15 @@ one_cut c (a ∷ f) (b ∷ g) r s x y e =
 pub same_cut : (c : ℕ) (whole f g r s : List ℕ) → Cut c whole f r → Cut c whole g s → (f ≡ g) × (r ≡ s)
 same_cut c whole f g r s x y = one_cut c f g r s x.clean y.clean (sym x.put ∙ y.put)
 
-not_clean : (c : ℕ) (f r : List ℕ) → Without c (f ++ (c ∷ r)) → ⊥
-not_clean c [] r h = h.0 refl
-not_clean c (b ∷ f) r h = not_clean c f r h.1
-
-pub no_cut : (c : ℕ) (whole f r : List ℕ) → Without c whole → Cut c whole f r → ⊥
-no_cut c whole f r clean x = not_clean c f r (subst (Without c) x.put clean)
-
 -- the pieces, cut by cut
-pub pieces_one : (c : ℕ) (bs : List ℕ) → Without c bs → pieces c bs ≡ bs ∷ []
-pieces_one c [] h = refl
-pieces_one c (b ∷ bs) h = ap (λ (t : Bool). cond t ([] ∷ pieces c bs) (onto b (pieces c bs))) (ne_eqb b c h.0) ∙ ap (onto b) (pieces_one c bs h.1)
+others : (c : ℕ) (bs : List ℕ) → Without c bs → All (λ b. (b == c) ≡ false) bs
+others c bs h = All-from_recursion _ bs (All-weaker (λ b. b ≢ c) (λ b. (b == c) ≡ false) (λ b n. ne_eqb b c n) bs h)
 
-pieces_first : (c : ℕ) (f r : List ℕ) → Without c f → pieces c (f ++ (c ∷ r)) ≡ f ∷ pieces c r
-pieces_first c [] r h = ap (λ (t : Bool). cond t ([] ∷ pieces c r) (onto c (pieces c r))) (eq-eqb c c refl)
-pieces_first c (b ∷ f) r h = ap (λ (t : Bool). cond t ([] ∷ pieces c (f ++ (c ∷ r))) (onto b (pieces c (f ++ (c ∷ r))))) (ne_eqb b c h.0) ∙ ap (onto b) (pieces_first c f r h.1)
+pub pieces_one : (c : ℕ) (bs : List ℕ) → Without c bs → pieces c bs ≡ bs ∷ []
+pieces_one c bs h = slice_split_none (λ b. b == c) bs (others c bs h)
 
 pub pieces_cut : (c : ℕ) (whole f r : List ℕ) → Cut c whole f r → pieces c whole ≡ f ∷ pieces c r
-pieces_cut c whole f r x = ap (pieces c) x.put ∙ pieces_first c f r x.clean
-
-onto_some : (b : ℕ) (ps : List (List ℕ)) → 0 < length (onto b ps)
-onto_some b [] = omega arith
-onto_some b (p ∷ ps) = omega arith
+pieces_cut c whole f r x = ap (pieces c) x.put ∙ slice_split_at (λ b. b == c) f c r (others c f x.clean) (eq-eqb c c refl)
 
 pub pieces_some : (c : ℕ) (bs : List ℕ) → 0 < length (pieces c bs)
-pieces_some c [] = omega arith
-pieces_some c (b ∷ bs) = elim (eqb b c) as (λ (t : Bool). 0 < length (cond t ([] ∷ pieces c bs) (onto b (pieces c bs)))) [ true ↦ omega arith | false ↦ onto_some b (pieces c bs) ]
+pieces_some c bs = omega (arith, length-slice_split (λ b. b == c) bs)

@@ -1,18 +1,19 @@
 -- Line by line: what was said so far, and the fields that say it.
-use Rattle.std.proofs.Common.{◌≡◌, ℕ, ◌+◌, ◌/◌, ◌%◌, ◌<◌, ◌≤◌, List, [], ◌∷◌, ◌++◌, length, sym, refl, ap, ◌∙◌, subst, arith}
-use Rattle.std.proofs.lemmas.List.{append-nil, append_assoc, length-append}
+use Rattle.std.proofs.Common.{◌≡◌, ℕ, ◌+◌, ◌/◌, ◌%◌, ◌<◌, ◌≤◌, List, [], ◌∷◌, ◌++◌, length, get_or, take, drop, sym, refl, ap, ◌∙◌, subst, arith}
+use Rattle.std.specs.List.{enumerate_from}
+use Rattle.std.proofs.lemmas.List.{append-nil, append_assoc, take-append-drop, drop_more, take_more, take_all, length-take-le}
+use Rattle.std.proofs.lemmas.List.FromFn.{length-enumerate_from, get_or-enumerate_from}
 use Rattle.cases.specs.Fields.{Leads}
 use Rattle.cases.specs.Contents.{Item, Says}
 use Rattle.cases.specs.Laws.{packed}
 use Rattle.case_text.specs.declared.fault.PackFault.{PackFault}
 use Rattle.case_text.specs.declared.fault.PackFault.TheVariants.{BadLine, NoMemory}
-use Rattle.case_text.specs.Pieces.{lines_of, Without, Cut}
+use Rattle.case_text.specs.Pieces.{lines_of}
 use Rattle.case_text.specs.Sayings.{LineSays, Bad, named, names_of, LinesSay}
 use Rattle.case_text.specs.Sayings as say
 use Rattle.case_text.specs.Packs.{ReadsBack, Packed, Stops, Faulted}
 use Rattle.case_text.specs.Packs as back
 use Rattle.case_text.specs.Parts.{Taken, passed, took, LineRefused}
-use Rattle.case_text.proofs.Cutting.{pieces_one, pieces_cut}
 
 -- lines behind lines
 say_more : {names lines more : List (List ℕ)} {items rest : List Item} → LinesSay names lines items → LinesSay (names ++ names_of items) more rest → LinesSay names (lines ++ more) (items ++ rest)
@@ -80,54 +81,31 @@ one_more {before} {names} {after} {bytes} {line} {more} h (took i t) = record {
   back = subst (λ (v : List ℕ). ReadsBack v (h.items ++ (i ∷ []))) (sym t.adds.put) (back_more h.back (back_one t.adds.tag t.adds.body i t.adds.says));
 }
 
--- the lines before the rest are done, and as many as the number says
-pub record SoFar (text rest : List ℕ) (names : List (List ℕ)) (bytes : List ℕ) (number : ℕ) : Type 0 where
-  pub before : List (List ℕ)
-  pub split : lines_of text ≡ before ++ lines_of rest
-  pub count : number ≡ length before + 1
-  pub held : Held before names bytes
-  pub room : number + length rest ≤ length text + 1
+-- the line of this number is the next
+pub next_line : (lines : List (List ℕ)) (n i : ℕ) (line : List ℕ) → n < length (enumerate_from 0 lines) → (i, line) ≡ get_or (enumerate_from 0 lines) n (i, line) → (n < length lines) × (i ≡ n) × (line ≡ get_or lines n line)
+next_line lines n i line there is =
+    let here : n < length lines = omega (arith, there, length-enumerate_from 0 lines) in
+    let same = is ∙ get_or-enumerate_from 0 lines n (i, line) here in
+    (here, omega (arith, ap (λ (p : ℕ × List ℕ). p.0) same), ap (λ (p : ℕ × List ℕ). p.1) same)
 
-pub begun : {text : List ℕ} {names : List (List ℕ)} {bytes : List ℕ} → names ≡ [] → bytes ≡ [] → SoFar text text names bytes 1
-begun e f = record { before = []; split = refl; count = refl; held = none_held e f; room = omega arith }
+pub gone_on : (lines : List (List ℕ)) (n : ℕ) (line : List ℕ) {names after : List (List ℕ)} {bytes grown : List ℕ} → n < length lines → line ≡ get_or lines n line → Held (take n lines) names bytes → Taken names bytes line after grown → Held (take (n + 1) lines) after grown
+gone_on lines n line {names} {after} {bytes} {grown} there is h t =
+    subst (λ (v : List (List ℕ)). Held v after grown) (ap (λ (l : List ℕ). take n lines ++ (l ∷ [])) is ∙ sym (take_more lines n line there)) (one_more h t)
 
-pub shorter : {rest front more : List ℕ} → Cut 10 rest front more → length more < length rest
-shorter {rest} {front} {more} x = omega (arith, ap length x.put, length-append front (10 ∷ more))
+pub ended : (text : List ℕ) (n : ℕ) {names : List (List ℕ)} {bytes : List ℕ} → length (lines_of text) ≤ n → Held (take n (lines_of text)) names bytes → Packed text bytes
+ended text n all h = record { items = h.items; said = subst (λ (v : List (List ℕ)). LinesSay [] v h.items) (take_all n (lines_of text) all) h.said; back = h.back }
 
-pub gone_on : {text rest front more : List ℕ} {names after : List (List ℕ)} {bytes grown : List ℕ} {number : ℕ} → SoFar text rest names bytes number → Cut 10 rest front more → Taken names bytes front after grown → SoFar text more after grown (number + 1)
-gone_on {text} {rest} {front} {more} {names} {after} {bytes} {grown} {number} h x t = record {
-  before = h.before ++ (front ∷ []);
-  split = h.split ∙ ap (λ (v : List (List ℕ)). h.before ++ v) (pieces_cut 10 rest front more x) ∙ sym (append_assoc h.before (front ∷ []) (lines_of more));
-  count = omega (arith, h.count, length-append h.before (front ∷ []));
-  held = one_more h.held t;
-  room = omega (arith, h.room, shorter x);
-}
-
-pub ended : {text rest : List ℕ} {names after : List (List ℕ)} {bytes grown : List ℕ} {number : ℕ} → SoFar text rest names bytes number → Without 10 rest → Taken names bytes rest after grown → Packed text grown
-ended {text} {rest} h clean t =
-    let last = one_more h.held t in
+pub stopped : (f : PackFault) (text : List ℕ) (n number : ℕ) (line : List ℕ) {names : List (List ℕ)} {bytes : List ℕ} → n < length (lines_of text) → line ≡ get_or (lines_of text) n line → number ≡ n + 1 → Held (take n (lines_of text)) names bytes → LineRefused names line number f → Faulted text f
+stopped (BadLine m) text n number line there is count h bad =
+    let lines = lines_of text in
     record {
-      items = last.items;
-      said = subst (λ (v : List (List ℕ)). LinesSay [] v last.items) (sym (h.split ∙ ap (λ (v : List (List ℕ)). h.before ++ v) (pieces_one 10 rest clean))) last.said;
-      back = last.back;
+      before = take n lines;
+      line = line;
+      behind = drop (n + 1) lines;
+      items = h.items;
+      split = sym (take-append-drop n lines) ∙ ap (λ (v : List (List ℕ)). take n lines ++ v) (drop_more lines n line there ∙ ap (λ (l : List ℕ). l ∷ drop (n + 1) lines) (sym is));
+      count = omega (arith, bad.1, count, length-take-le n lines (omega arith));
+      said = h.said;
+      bad = subst (λ (v : List (List ℕ)). Bad v line) h.kept bad.0;
     }
-
-stops : {text rest front : List ℕ} {behind names : List (List ℕ)} {bytes : List ℕ} {number n : ℕ} → SoFar text rest names bytes number → lines_of rest ≡ front ∷ behind → Bad names front → n ≡ number → Stops text n
-stops {text} {rest} {front} {behind} h e bad is = record {
-  before = h.before;
-  line = front;
-  behind = behind;
-  items = h.held.items;
-  split = h.split ∙ ap (λ (v : List (List ℕ)). h.before ++ v) e;
-  count = is ∙ h.count;
-  said = h.held.said;
-  bad = subst (λ (v : List (List ℕ)). Bad v front) h.held.kept bad;
-}
-
-pub stopped : {text rest front more : List ℕ} {names : List (List ℕ)} {bytes : List ℕ} {number : ℕ} (f : PackFault) → SoFar text rest names bytes number → Cut 10 rest front more → LineRefused names front number f → Faulted text f
-stopped {text} {rest} {front} {more} (BadLine n) h x bad = stops h (pieces_cut 10 rest front more x) bad.0 bad.1
-stopped NoMemory h x bad = tt
-
-pub stopped_last : {text rest : List ℕ} {names : List (List ℕ)} {bytes : List ℕ} {number : ℕ} (f : PackFault) → SoFar text rest names bytes number → Without 10 rest → LineRefused names rest number f → Faulted text f
-stopped_last {text} {rest} (BadLine n) h clean bad = stops h (pieces_one 10 rest clean) bad.0 bad.1
-stopped_last NoMemory h clean bad = tt
+stopped NoMemory text n number line there is count h bad = tt

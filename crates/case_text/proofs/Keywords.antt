@@ -8,7 +8,7 @@ use Rattle.case_text.specs.Pieces.{Without, Cut}
 use Rattle.case_text.specs.Words.{LineName, Whole, Enters}
 use Rattle.case_text.specs.Sayings.{LineSays, a_name, a_rule, an_entry, a_tick, SaysNone}
 use Rattle.case_text.specs.Parts.{ContentOf, NameContent, RuleContent, EntryContent, TickContent, FitsField}
-use Rattle.case_text.proofs.Cutting.{same_cut, no_cut}
+use Rattle.case_text.proofs.Cutting.{same_cut}
 
 plain_line : Without 32 (codes "line")
 plain_line = (λ e. omega (arith, e), (λ e. omega (arith, e), (λ e. omega (arith, e), (λ e. omega (arith, e), tt))))
@@ -97,13 +97,6 @@ module _ (names : List (List ℕ)) (line key args : List ℕ) (cut : Cut 32 line
 
   pub by_none : (key ≡ codes "line" → ⊥) → (key ≡ codes "rule" → ⊥) → (key ≡ codes "enter" → ⊥) → (key ≡ codes "tick" → ⊥) → SaysNone names line
   by_none a b c d = λ i s. no_key a b c d i (keyed i s)
-
--- a line of one word says nothing
-pub one_word : (names : List (List ℕ)) (line : List ℕ) → Without 32 line → SaysNone names line
-one_word names line clean i (a_name {w = w} e n p) = no_cut 32 line (codes "line") w clean (record { put = e; clean = plain_line })
-one_word names line clean i (a_rule {text = t} e n p) = no_cut 32 line (codes "rule") t clean (record { put = e; clean = plain_rule })
-one_word names line clean i (an_entry {words = ws} e n p) = no_cut 32 line (codes "enter") ws clean (record { put = e; clean = plain_enter })
-one_word names line clean i (a_tick {w = w} e n p) = no_cut 32 line (codes "tick") w clean (record { put = e; clean = plain_tick })
 
 -- what a line says fits a field
 pub fits_said : (names : List (List ℕ)) (line : List ℕ) (i : Item) → LineSays names line i → FitsField i

@@ -4,6 +4,7 @@ pub mod Names
 pub mod Fives
 pub mod Keywords
 pub mod Bodies
+pub mod Turns
 pub mod Growing
 pub mod OneWay
 pub mod OneAnswer

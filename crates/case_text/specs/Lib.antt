@@ -4,3 +4,4 @@ pub mod Sayings
 pub mod Packs
 pub mod Parts
 pub mod Laws
+pub mod Keywords

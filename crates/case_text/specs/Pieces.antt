@@ -1,16 +1,10 @@
 -- The pieces of a text: what stands between the bytes of one kind, as lines between line ends and words between spaces.
-use Rattle.std.specs.Prelude.{◌≡◌, ℕ, cond, List, [], ◌∷◌, ◌++◌, ◌==◌, ◌≢◌}
-use Rattle.std.specs.List.{AllByRecursion}
-
--- a byte in front of the first piece
-abbrev pub onto : ℕ → List (List ℕ) → List (List ℕ)
-onto b [] = (b ∷ []) ∷ []
-onto b (p ∷ ps) = (b ∷ p) ∷ ps
+use Rattle.std.specs.Prelude.{◌≡◌, ℕ, List, ◌∷◌, ◌++◌, ◌==◌, ◌≢◌}
+use Rattle.std.specs.List.{AllByRecursion, slice_split}
 
 -- each c ends a piece, and begins another; a text with no c is one piece
 abbrev pub pieces : ℕ → List ℕ → List (List ℕ)
-pieces c [] = [] ∷ []
-pieces c (b ∷ bs) = cond (b == c) ([] ∷ pieces c bs) (onto b (pieces c bs))
+pieces c text = slice_split (λ b. b == c) text
 
 -- lines stand between bytes 10, and words between spaces
 abbrev pub lines_of : List ℕ → List (List ℕ)

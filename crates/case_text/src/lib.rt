@@ -3,6 +3,7 @@
 
 pub mod fault;
 mod field;
+mod keyword;
 pub mod laws;
 mod line;
 mod number;

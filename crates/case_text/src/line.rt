@@ -3,21 +3,13 @@ ghost use Rattle.std.specs.Prelude.{Decides};
 ghost use Rattle.tokens.specs.Answers.{texts};
 ghost use Rattle.case_text.specs.Words.{Enters};
 ghost use Rattle.case_text.specs.Sayings.{Silent};
-ghost use Rattle.case_text.specs.Parts.{Reads, Five, ContentOf, NameContent, RuleContent, EntryContent, TickContent};
+ghost use Rattle.case_text.specs.Parts.{Reads, Five, ContentOf, NameContent, RuleContent};
 
+use crate::keyword::{Keyword, keyword_of};
 use crate::number::{reading, whole};
 use crate::split::split_at;
 use crate::word::{SPACE, is_line_name, line_of};
 use cases::field::{Content, Entry};
-
-// The words that lines begin with.
-const LINE: &[u8] = b"line";
-
-const RULE: &[u8] = b"rule";
-
-const ENTER: &[u8] = b"enter";
-
-const TICK: &[u8] = b"tick";
 
 const COMMENT: u8 = b'#';
 
@@ -54,12 +46,6 @@ fn rule_of<'a>(text: &'a [u8]) -> Option<Content<'a>>
     ensures { RuleContent text.now result }
 {
     (text.len() <= RULE_BYTES).then_some(Content::Rule(text))
-}
-
-fn tick_of<'a>(word: &'a [u8]) -> Option<Content<'a>>
-    ensures { TickContent word.now result }
-{
-    Some(Content::Tick(whole(word)?))
 }
 
 // The five words, if there are five.
@@ -101,28 +87,15 @@ fn entry_of(names: &[&[u8]], words: &[u8]) -> Option<Entry>
     })
 }
 
-fn enter_of<'a>(names: &[&[u8]], words: &'a [u8]) -> Option<Content<'a>>
-    ensures { EntryContent (texts names.now) words.now result }
-{
-    Some(Content::Entry(entry_of(names, words)?))
-}
-
 // What the line says behind lines that gave these names.
 pub(crate) fn content_of<'a>(names: &[&[u8]], line: &'a [u8]) -> Option<Content<'a>>
     ensures { ContentOf (texts names.now) line.now result }
 {
     let split = split_at(line, SPACE)?;
-    if split.front == LINE {
-        return name_of(split.rest);
+    match keyword_of(split.front)? {
+        Keyword::Line => name_of(split.rest),
+        Keyword::Rule => rule_of(split.rest),
+        Keyword::Enter => Some(Content::Entry(entry_of(names, split.rest)?)),
+        Keyword::Tick => Some(Content::Tick(whole(split.rest)?)),
     }
-    if split.front == RULE {
-        return rule_of(split.rest);
-    }
-    if split.front == ENTER {
-        return enter_of(names, split.rest);
-    }
-    if split.front == TICK {
-        return tick_of(split.rest);
-    }
-    None
 }

@@ -9,7 +9,6 @@ ghost use Rattle.case_text.specs.Parts.{Taken, LineRefused};
 use crate::fault::PackFault;
 use crate::field::put;
 use crate::line::{content_of, is_silent};
-use crate::split::split_at;
 use cases::field::Content;
 use std::alloc::{AllocError, Global};
 
@@ -51,13 +50,8 @@ pub fn pack(text: &[u8], heap: Global) -> Result<Vec<u8>, PackFault>
 {
     let mut names: Vec<&[u8]> = Vec::new(heap);
     let mut case: Vec<u8> = Vec::new(heap);
-    let mut number = 1;
-    let mut rest = text;
-    while let Some(split) = split_at(rest, LINE_END) {
-        take_line(&mut names, &mut case, number, split.front)?;
-        number += 1;
-        rest = split.rest;
+    for (index, line) in text.split(|byte| *byte == LINE_END).enumerate() {
+        take_line(&mut names, &mut case, index + 1, line)?;
     }
-    take_line(&mut names, &mut case, number, rest)?;
     Ok(case)
 }

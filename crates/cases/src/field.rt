@@ -40,7 +40,7 @@ pub enum Content<'a> {
     Tick(u32),
 }
 
-// The four bytes from `at` on, the high byte first.
+// The four bytes from `at` on, the high byte first. They are read one by one, since `<[u8; 4]>::try_from` has a refusal that cannot come here.
 fn unsigned(bytes: &[u8], at: usize) -> u32
     requires { at + 4 ≤ length bytes.now }
     ensures { result ≡ number_at at bytes.now }

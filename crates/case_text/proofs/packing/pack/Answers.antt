@@ -1,30 +1,32 @@
-use Rattle.std.proofs.Common.{ap, arith}
+use Rattle.std.proofs.Common.{◌+◌, length, eqb, ap, arith, rules, tests}
+use Rattle.std.proofs.lemmas.List.{length_push}
+use Rattle.std.proofs.lemmas.List.FromFn.{length-enumerate_from}
 use Rattle.std.proofs.lemmas.Result.{err_from_is_err_and}
+use Rattle.std.proofs.lemmas.Iterator.Consumers.{YieldsList-at, YieldsList-from_enumerate}
+use Rattle.std.proofs.lemmas.Iterator.Splits.{YieldsList-from_slice_split}
 use Rattle.tokens.specs.Answers.{texts}
-use Rattle.case_text.proofs.Growing.{begun, gone_on, ended, stopped, stopped_last, shorter}
+use Rattle.case_text.specs.Pieces.{lines_of}
+use Rattle.case_text.proofs.Turns.{turn, end_of}
+use Rattle.case_text.proofs.Growing.{none_held, next_line, gone_on, ended, stopped}
 use Rattle.case_text.proofs.packing.pack.Goals as goal
 
-pub loop-split-init : goal.loop-split-init
-loop-split-init c = begun (ap texts c.new-names.ensures.items) c.new-case.ensures.items
+pub loop-index-init : goal.loop-index-init
+loop-index-init c = none_held (ap texts c.new-names.ensures.items) c.new-case.ensures.items
+
+pub loop-index-preserved : goal.loop-index-preserved
+loop-index-preserved c =
+    let t = turn c.loop-index.yielded _ c.loop-index.yielded_by _ _ c.next.ensures.steps (c.in-Some.index, c.in-Some.line) c.in-Some.is (YieldsList-at (cc) (YieldsList-from_enumerate (YieldsList-at c.enumerate-index-items.ensures.source (YieldsList-from_slice_split _ (λ b. eqb b 10) c.args.text.now c.split.ensures.rest c.split.ensures.done c.split.ensures.closure (λ x b q k. search (rules, tests)))) c.enumerate-index-items.ensures.count)) in
+    let at = next_line (lines_of c.args.text.now) _ _ _ t.0 t.1 in
+    rw length_push (gone_on (lines_of c.args.text.now) (length c.loop-index.yielded) c.in-Some.line.now at.0 at.2 c.loop-index.invariant c.in_ok-take_line.ensures)
 
 pub returns-in_err-take_line : goal.returns-in_err-take_line
 returns-in_err-take_line c =
     let p = err_from_is_err_and c.from_residual.result c.from_residual.ensures.1 in
-    rw (p.1, p.2) (stopped _ c.loop-split.invariant c.in-Some.ensures c.in_err-take_line.ensures)
-
-pub overflow_add-number : goal.overflow_add-number
-overflow_add-number c = omega (arith, c.loop-split.invariant.room, shorter c.in-Some.ensures)
-
-pub loop-split-smaller : goal.loop-split-smaller
-loop-split-smaller c = shorter c.in-Some.ensures
-
-pub loop-split-preserved : goal.loop-split-preserved
-loop-split-preserved c = gone_on c.loop-split.invariant c.in-Some.ensures c.in_ok-take_line.ensures
-
-pub returns-in_err-take_line-2 : goal.returns-in_err-take_line-2
-returns-in_err-take_line-2 c =
-    let p = err_from_is_err_and c.from_residual-in_err-take_line-2.result c.from_residual-in_err-take_line-2.ensures.1 in
-    rw (p.1, p.2) (stopped_last _ c.loop-split.invariant c.in_default.ensures c.in_err-take_line-2.ensures)
+    let t = turn c.loop-index.yielded _ c.loop-index.yielded_by _ _ c.next.ensures.steps (c.in-Some.index, c.in-Some.line) c.in-Some.is (YieldsList-at (cc) (YieldsList-from_enumerate (YieldsList-at c.enumerate-index-items.ensures.source (YieldsList-from_slice_split _ (λ b. eqb b 10) c.args.text.now c.split.ensures.rest c.split.ensures.done c.split.ensures.closure (λ x b q k. search (rules, tests)))) c.enumerate-index-items.ensures.count)) in
+    let at = next_line (lines_of c.args.text.now) _ _ _ t.0 t.1 in
+    rw (p.1, p.2) (stopped _ c.args.text.now (length c.loop-index.yielded) (c.in-Some.index + 1) c.in-Some.line.now at.0 at.2 (ap (λ n. n + 1) at.1) c.loop-index.invariant c.in_err-take_line.ensures)
 
 pub returns : goal.returns
-returns c = ended c.loop-split.invariant c.in_default.ensures c.in_ok-take_line-2.ensures
+returns c =
+    let t = end_of c.loop-index.yielded _ c.loop-index.yielded_by _ _ c.next.ensures.steps c.in-None.is (YieldsList-at (cc) (YieldsList-from_enumerate (YieldsList-at c.enumerate-index-items.ensures.source (YieldsList-from_slice_split _ (λ b. eqb b 10) c.args.text.now c.split.ensures.rest c.split.ensures.done c.split.ensures.closure (λ x b q k. search (rules, tests)))) c.enumerate-index-items.ensures.count)) in
+    ended c.args.text.now (length c.loop-index.yielded) (omega (arith, t, length-enumerate_from 0 (lines_of c.args.text.now))) c.loop-index.invariant

@@ -1,10 +1,9 @@
-use Rattle.std.proofs.Common.{length, vec_items}
+use Rattle.std.proofs.Common.{length, take, vec_items}
 use Rattle.tokens.specs.Answers.{texts}
-use Rattle.case_text.proofs.Growing.{SoFar}
+use Rattle.case_text.specs.Pieces.{lines_of}
+use Rattle.case_text.proofs.Growing.{Held}
 use Rattle.case_text.proofs.packing.pack.Given as goal
 
-abbrev pub invariant-loop-split : goal.invariant-loop-split
-invariant-loop-split l = SoFar l.text l.rest (texts (vec_items l.names)) (vec_items l.case) l.number
-
-abbrev pub decreases-loop-split : goal.decreases-loop-split
-decreases-loop-split l = length l.rest
+-- the lines so far are said by the fields so far
+abbrev pub invariant-loop-index : goal.invariant-loop-index
+invariant-loop-index l = Held (take (length l.yielded) (lines_of l.text)) (texts (vec_items l.names)) (vec_items l.case)
