@@ -26,6 +26,7 @@ fn hear_some(source: &mut impl Read, input: &mut Input) -> io::Result<usize>
 fn hear_out(source: &mut impl Read, input: &mut Input) -> io::Result<()>
     ensures { HearsOn input.old input.new }
 {
+    // A bound on the reads, since each function ends, and a source need not.
     for _ in 0..u64::MAX {
         if hear_some(source, input)? == 0 {
             break;

@@ -5,8 +5,7 @@ use Rattle.std.specs.declared.fmt.Formatter.{Formatter}
 use Rattle.std.proofs.Output.{has_written_append, has_written_of_eq}
 use Rattle.std.proofs.lemmas.List.{take_more, length-take-le}
 use Rattle.rules.specs.declared.row.Row.{Row}
-use Rattle.rules.specs.Rows.{reach}
-use Rattle.rule_lines.specs.Listing.{row_line, row_lines, last_line, table_text}
+use Rattle.rule_lines.specs.Listing.{row_line, row_lines}
 
 row_lines_push : (j : ℕ) (rows : List Row) (r : Row) → row_lines j (rows ++ (r ∷ [])) ≡ row_lines j rows ++ row_line (j + length rows) r
 row_lines_push j [] r = append-nil (row_line j r) ∙ ap (λ (k : ℕ). row_line k r) (omega arith)
@@ -21,7 +20,3 @@ row_lines_more rows k d h =
 module _ {W : Type 0} (took : W → List ℕ → W → Type 0) (f : Formatter W) where
   pub more : (g h : Formatter W) (rows : List Row) (k : ℕ) (d : Row) → k < length rows → HasWritten took f (row_lines 0 (take k rows)) g → HasWritten took g (row_line k (get_or rows k d)) h → HasWritten took f (row_lines 0 (take (k + 1) rows)) h
   more g h rows k d some x y = has_written_of_eq took f _ _ h (row_lines_more rows k d some) (has_written_append took f _ g _ h x y)
-
-  -- and behind the rows their number and reach
-  pub table : (g h : Formatter W) (rows read : List Row) (ahead : ℕ) → rows ≡ read → ahead ≡ reach read → HasWritten took f (row_lines 0 rows) g → HasWritten took g (last_line (length rows) ahead) h → HasWritten took f (table_text read) h
-  table g h rows read ahead e r x y = has_written_of_eq took f _ _ h (λ i. row_lines 0 (e i) ++ last_line (length (e i)) (r i)) (has_written_append took f _ g _ h x y)

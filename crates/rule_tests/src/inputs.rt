@@ -1,5 +1,5 @@
 // Whole inputs, each with its listing.
-use crate::tally::Tally;
+use crate::tally::{Run, Tally};
 use rule_lines::input::answer_to;
 use rule_lines::listing::Listing;
 use std::io;
@@ -11,8 +11,8 @@ pub(crate) struct WholeInput {
     listing: &'static str,
 }
 
-impl WholeInput {
-    pub(crate) fn run(&self, rt: &HostRuntime, tally: &mut Tally) -> io::Result<()> {
+impl Run for WholeInput {
+    fn run(&self, rt: &HostRuntime, tally: &mut Tally) -> io::Result<()> {
         let listing = Listing(answer_to(self.input));
         let found = format!(in rt.alloc(); "{listing}")?;
         let right = found.as_str() == self.listing;

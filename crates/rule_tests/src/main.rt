@@ -11,27 +11,17 @@ mod words;
 use inputs::INPUTS;
 use refusals::REFUSALS;
 use std::io;
-use tally::Tally;
+use tally::{Tally, run_all};
 use texts::RULES;
 use words::{FAULTS, WORDS};
 
 fn main(rt: HostRuntime) -> io::Result<()> {
     let mut tally = Tally { cases: 0, wrong: 0 };
-    for case in &RULES {
-        case.run(&rt, &mut tally)?;
-    }
-    for case in &REFUSALS {
-        case.run(&rt, &mut tally)?;
-    }
-    for case in &INPUTS {
-        case.run(&rt, &mut tally)?;
-    }
-    for case in &WORDS {
-        case.run(&rt, &mut tally)?;
-    }
-    for case in &FAULTS {
-        case.run(&rt, &mut tally)?;
-    }
+    run_all(&RULES, &rt, &mut tally)?;
+    run_all(&REFUSALS, &rt, &mut tally)?;
+    run_all(&INPUTS, &rt, &mut tally)?;
+    run_all(&WORDS, &rt, &mut tally)?;
+    run_all(&FAULTS, &rt, &mut tally)?;
     let cases = tally.cases;
     let wrong = tally.wrong;
     println!(rt; "{cases} cases, {wrong} wrong")

@@ -29,3 +29,16 @@ impl Tally {
         }
     }
 }
+
+// What can be run, and notes how it came out.
+pub(crate) trait Run {
+    fn run(&self, rt: &HostRuntime, tally: &mut Tally) -> io::Result<()>;
+}
+
+// Runs each case in turn.
+pub(crate) fn run_all<T: Run>(cases: &[T], rt: &HostRuntime, tally: &mut Tally) -> io::Result<()> {
+    for case in cases {
+        case.run(rt, tally)?;
+    }
+    Ok(())
+}

@@ -4,7 +4,7 @@ ghost use Rattle.rule_tests.specs.Texts.{put_together_lem, text_of};
 
 use crate::outcome::Outcome;
 use crate::outcome::Outcome::Read;
-use crate::tally::Tally;
+use crate::tally::{Run, Tally};
 use rules::rule::Rule;
 use std::alloc::{AllocError, Global};
 use std::{fmt, io};
@@ -103,8 +103,10 @@ impl Case {
             _ => true,
         }
     }
+}
 
-    pub(crate) fn run(&self, rt: &HostRuntime, tally: &mut Tally) -> io::Result<()> {
+impl Run for Case {
+    fn run(&self, rt: &HostRuntime, tally: &mut Tally) -> io::Result<()> {
         let text = self.0.written_out(rt.alloc())?;
         let found = Outcome::of(&Rule::read(text.as_bytes(), &NAMES));
         tally.note(rt, &self.0, found, found == self.1)

@@ -1,5 +1,5 @@
 // Texts at the edges of the words, each with its tokens or with the place at which there is none.
-use crate::tally::Tally;
+use crate::tally::{Run, Tally};
 use std::io;
 use tokens::fault::TokenFault;
 use tokens::lexer::tokenize;
@@ -18,8 +18,8 @@ pub(crate) struct Words {
     places: &'static [usize],
 }
 
-impl Words {
-    pub(crate) fn run(&self, rt: &HostRuntime, tally: &mut Tally) -> io::Result<()> {
+impl Run for Words {
+    fn run(&self, rt: &HostRuntime, tally: &mut Tally) -> io::Result<()> {
         let label = format!(in rt.alloc(); "{:?}", self.text)?;
         match tokenize(self.text.as_bytes(), &NAMES) {
             Ok(found) => {
@@ -38,8 +38,8 @@ pub(crate) struct BadWord {
     place: usize,
 }
 
-impl BadWord {
-    pub(crate) fn run(&self, rt: &HostRuntime, tally: &mut Tally) -> io::Result<()> {
+impl Run for BadWord {
+    fn run(&self, rt: &HostRuntime, tally: &mut Tally) -> io::Result<()> {
         let label = format!(in rt.alloc(); "{:?}", self.text)?;
         match tokenize(self.text.as_bytes(), &NAMES) {
             Ok(_) => tally.note(rt, label, "no fault", false),
