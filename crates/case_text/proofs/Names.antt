@@ -1,13 +1,9 @@
 -- The first of the names that is a word.
-use Rattle.std.proofs.Common.{◌≡◌, ℕ, ◌<◌, ◌≢◌, List, [], ◌∷◌, ◌++◌, length, get_or, take, MatchOption, Some, None, Option, sym, ap, ◌∙◌, arith, Bor}
+use Rattle.std.proofs.Common.{◌≡◌, ℕ, ◌<◌, ◌≢◌, List, [], length, get_or, take, MatchOption, Some, None, Option, sym, ap, ◌∙◌, arith, Bor}
 use Rattle.std.specs.List.{AllWithin, HoldsAt}
-use Rattle.std.proofs.lemmas.List.{get_or-map, get_or-take, length-take, length-map, map-append}
-use Rattle.cases.specs.declared.field.Content.{Content}
-use Rattle.cases.specs.declared.field.Content.TheVariants as content
-use Rattle.cases.specs.Contents.{item_of}
+use Rattle.std.proofs.lemmas.List.{get_or-map, get_or-take, length-take, length-map}
 use Rattle.tokens.specs.Answers.{texts}
 use Rattle.case_text.specs.Words.{First}
-use Rattle.case_text.specs.Sayings.{named}
 use Rattle.case_text.specs.Parts.{Reads}
 
 module _ (refs : List (Bor (List ℕ))) (w : List ℕ) (d : Bor (List ℕ)) where
@@ -26,7 +22,3 @@ module _ (refs : List (Bor (List ℕ))) (w : List ℕ) (d : Bor (List ℕ)) wher
         same = is_read i first.0 ∙ first.1 d;
         first = λ j before same. first.2 j d (omega arith) before (sym (is_read j (omega (arith, before, first.0))) ∙ same);
       }
-
--- one more name is kept
-pub kept_name : (c : Content) (w : Bor (List ℕ)) (before after : List (Bor (List ℕ))) → c ≡ content.Name w → after ≡ before ++ (w ∷ []) → texts after ≡ texts before ++ named (item_of c)
-kept_name c w before after is e = ap texts e ∙ map-append (λ x. x.now) before (w ∷ []) ∙ ap (λ (v : Content). texts before ++ named (item_of v)) (sym is)

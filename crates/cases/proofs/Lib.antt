@@ -1,4 +1,3 @@
-pub mod Digits
 pub mod Splits
 pub mod Repeats
 pub mod Heads

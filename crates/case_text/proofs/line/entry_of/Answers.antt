@@ -1,13 +1,7 @@
 use Rattle.std.proofs.Common.{ℤ, sym, subst, to_z-of_z, w32, SFits, rules}
 use Rattle.case_text.specs.Words.{Reading}
-use Rattle.case_text.proofs.Fives.{its_from, its_to, its_lower, its_upper}
+use Rattle.case_text.proofs.Fives.{its_lower, its_upper}
 use Rattle.case_text.proofs.line.entry_of.Goals as goal
-
-pub returns-in_err-from : goal.returns-in_err-from
-returns-in_err-from c = rw c.from_residual-in_err-from.ensures (λ e x. c.in_err-from.ensures e.from (its_from _ _ _ _ _ _ _ c.in_ok-five.ensures e x))
-
-pub returns-in_err-to : goal.returns-in_err-to
-returns-in_err-to c = rw c.from_residual-in_err-to.ensures (λ e x. c.in_err-to.ensures e.to (its_to _ _ _ _ _ _ _ c.in_ok-five.ensures e x))
 
 pub returns-in_err-lower : goal.returns-in_err-lower
 returns-in_err-lower c = rw c.from_residual-in_err-lower.ensures (λ e x. c.in_err-lower.ensures e.lower (its_lower _ _ _ _ _ _ _ c.in_ok-five.ensures e x))
