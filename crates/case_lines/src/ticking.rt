@@ -17,12 +17,12 @@ use grades::margin::Margin;
 use grades::range::Range;
 use grades::truth::Truth;
 use jobs::job::Job;
-use meaning::mark::Mark;
-use rules::rule::Rule;
-use std::alloc::AllocError;
 use judge::fault::MarkFault;
 use judge::judging::judge;
 use judge::marking::mark;
+use meaning::mark::Mark;
+use rules::rule::Rule;
+use std::alloc::AllocError;
 
 // The verdict at a tick with its margin, and how many marks it has.
 #[derive(Clone, Copy)]

@@ -4,12 +4,12 @@ use crate::lists::row_list;
 use crate::mismatch::{Mismatch, ensure};
 use crate::question::Question;
 use grades::range::Range;
+use judge::fault::JudgeFault;
+use judge::judging::judge;
 use pieces::piece::Piece;
 use reference::ends::Ends;
 use reference::values::Values;
 use rules::row::Row;
-use judge::fault::JudgeFault;
-use judge::judging::judge;
 
 // Cells enough for the row lists of each rule that comes.
 pub const ROW_CELLS: usize = 2048;

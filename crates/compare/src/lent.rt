@@ -2,11 +2,11 @@
 use crate::cells::{Measured, begin_alike, blank_from, blanks, written};
 use crate::question::Question;
 use grades::range::Range;
+use judge::fault::{JudgeFault, MarkFault};
+use judge::marking::{Marking, mark};
 use meaning::mark::Mark;
 use pieces::piece::Piece;
 use std::alloc::{AllocError, Global};
-use judge::fault::{JudgeFault, MarkFault};
-use judge::marking::{Marking, mark};
 
 // How many cells of each kind.
 #[derive(Clone, Copy, Debug)]

@@ -10,6 +10,9 @@ use compare::question::Question;
 use grades::margin::Margin;
 use grades::truth::Truth;
 use jobs::job::Job;
+use judge::fault::MarkFault::Judging;
+use judge::fault::{JudgeFault, MarkFault};
+use judge::judging::judge;
 use meaning::reading::Reading;
 use pieces::piece::Piece;
 use reference::forecast::Forecast;
@@ -18,9 +21,6 @@ use rules::fault::RuleFault;
 use rules::rule::Rule;
 use std::alloc::Global;
 use std::io;
-use judge::fault::MarkFault::Judging;
-use judge::fault::{JudgeFault, MarkFault};
-use judge::judging::judge;
 
 // The job has the lines a and b alone.
 static NAMES: [&'static [u8]; 16] = [
