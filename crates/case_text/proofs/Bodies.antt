@@ -56,7 +56,3 @@ entry_said e f t l u from to low high pf pt pl pu =
     let ql = signed_is e.lower low ∙ sym pl in
     let qu = signed_is e.upper high ∙ sym pu in
     subst (λ (v : List ℕ). Says 0x45 v (entry e)) (λ i. laid e.line (qf i) (qt i) (ql i) (qu i)) (entries e low high)
-
--- three bytes and a body are put behind others
-pub put_field_lem : (before mid after : List ℕ) (tag : ℕ) (body : List ℕ) → mid ≡ before ++ (tag ∷ (length body / 256 ∷ (length body % 256 ∷ []))) → after ≡ mid ++ body → after ≡ before ++ packed tag body
-put_field_lem before mid after tag body m a = a ∙ ap (λ (v : List ℕ). v ++ body) m ∙ append_assoc before (tag ∷ (length body / 256 ∷ (length body % 256 ∷ []))) body

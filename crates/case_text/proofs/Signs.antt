@@ -17,7 +17,3 @@ minus_reads w b ds (Some z) e f m = minus (e ∙ ap (λ (x : ℕ). x ∷ ds) f) 
 no_plain : (w : List ℕ) (b : ℕ) (ds : List ℕ) (z : ℤ) → w ≡ b ∷ ds → (b ≡ 45 → ⊥) → ((y : ℤ) → Plain w y → ⊥) → Reading w z → ⊥
 no_plain w b ds z e other none (plain p) = none z p
 no_plain w b ds z e other none (minus f m) = other (head-eq_of_cons-eq (sym e ∙ f))
-
-pub plain_reads : (w : List ℕ) (b : ℕ) (ds : List ℕ) (r : Option ℤ) → w ≡ b ∷ ds → (b ≡ 45 → ⊥) → Reads (Plain w) r → Reads (Reading w) r
-plain_reads w b ds None e other none = λ z. no_plain w b ds z e other none
-plain_reads w b ds (Some z) e other p = plain p

@@ -24,13 +24,6 @@ word (rule text) = []
 word (entry e) = []
 word (tick t) = []
 
-pub name_body : (tag : ℕ) (body w : List ℕ) → Says tag body (name w) → w ≡ body
-unfolding word
-name_body tag body w (a_name t s l e) = ap word e
-name_body tag body w (a_rule t e) = absurd (let z : ◌≡◌ {A = ℕ} 0 1 = cc in omega arith)
-name_body tag body w (an_entry t l e) = absurd (let z : ◌≡◌ {A = ℕ} 0 1 = cc in omega arith)
-name_body tag body w (a_tick t l e) = absurd (let z : ◌≡◌ {A = ℕ} 0 1 = cc in omega arith)
-
 module _ (names : List (List ℕ)) (tag : ℕ) (body : List ℕ) (n : ℕ) where
   pub wrong_refused : (f : CaseFault) → Wrong tag body → f ≡ BadField → Refuses names n tag body (refusal n f)
   wrong_refused f w e bytes rest l = wrong l w (ap (λ (g : CaseFault). Err (refusal n g)) e)

@@ -8,6 +8,3 @@ use Rattle.cases.specs.Headings.{refusal}
 module _ {A : Type 0} (r : Result A CaseFault) where
   pub kept : (x : A) → MatchResult r (λ y. ◌≡◌ {A = Result A CaseRefusal} (Ok x) (Ok y)) (λ f. ⊥) → r ≡ Ok x
   kept x h = elim r as (λ v. MatchResult v (λ y. ◌≡◌ {A = Result A CaseRefusal} (Ok x) (Ok y)) (λ f. ⊥) → v ≡ Ok x) [ Ok y ↦ λ e. cc | Err f ↦ λ e. absurd e ] h
-
-  pub numbered : (n : ℕ) (e : CaseRefusal) → MatchResult r (λ y. ◌≡◌ {A = Result A CaseRefusal} (Err e) (Ok y)) (λ f. e ≡ refusal n f) → (f : CaseFault) × (r ≡ Err f) × (e ≡ refusal n f)
-  numbered n e h = elim r as (λ v. MatchResult v (λ y. ◌≡◌ {A = Result A CaseRefusal} (Err e) (Ok y)) (λ f. e ≡ refusal n f) → (f : CaseFault) × (v ≡ Err f) × (e ≡ refusal n f)) [ Ok y ↦ λ x. absurd (cc) | Err f ↦ λ x. (f, refl, x) ] h

@@ -47,13 +47,6 @@ module _ (xs : List ℕ) (at : ℕ) where
   pub none_left : length (from xs at) ≡ 0 → drop at xs ≡ []
   none_left e = sym (take_rest xs at) ∙ nil_from_length (from xs at) e
 
-  pub cut_front : 0 < length (from xs at) → length (from xs at) < 3 → CutShort (drop at xs)
-  cut_front some few = subst CutShort (take_rest xs at) (no_front (from xs at) some few)
-
-  pub cut_body : (size : ℕ) → 3 ≤ length (from xs at) → size ≡ get_or (from xs at) 1 0 * 256 + get_or (from xs at) 2 0 → length (from (from xs at) 3) < size → CutShort (drop at xs)
-  cut_body size some e few =
-      subst CutShort (take_rest xs at) (no_body (from xs at) size some e (omega (arith, ap length (take_rest (from xs at) 3), length-drop 3 (from xs at))))
-
   pub taken : (size : ℕ) (body : List ℕ) → 3 ≤ length (from xs at) → size ≡ get_or (from xs at) 1 0 * 256 + get_or (from xs at) 2 0 → size ≤ length (from (from xs at) 3) → body ≡ take size (from (from xs at) 3) → Leads (drop at xs) (get_or (from xs at) 0 0) body (drop (at + (3 + size)) xs)
   taken size body some e within is =
       let tail : from (from xs at) 3 ≡ drop 3 (from xs at) = take_rest (from xs at) 3 in

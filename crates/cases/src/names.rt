@@ -1,19 +1,14 @@
 // The names of a case's lines.
 ghost use Rattle.std.specs.Prelude.{Decides};
 ghost use Rattle.tokens.specs.Answers.{texts};
-ghost use Rattle.tokens.specs.Words.{NameByte, IsName};
+ghost use Rattle.tokens.specs.Words.{IsName};
 ghost use Rattle.cases.specs.Orders.{Admits};
 
 use crate::field::NAME_BYTES;
+use tokens::lexer::is_name_byte;
 
 // The most names of a case.
 pub(crate) const NAMES: usize = 16;
-
-fn is_name_byte(byte: u8) -> bool
-    ensures { Decides result (NameByte byte) }
-{
-    byte.is_ascii_lowercase() || byte.is_ascii_digit()
-}
 
 // A small letter, and up to seven small letters and digits.
 fn is_name(word: &[u8]) -> bool
@@ -24,7 +19,7 @@ fn is_name(word: &[u8]) -> bool
     };
     first.is_ascii_lowercase()
         && word.len() <= NAME_BYTES
-        && word.iter().all(|byte| is_name_byte(*byte))
+        && word.iter().all(is_name_byte)
 }
 
 // Whether the word may be the next name behind these.

@@ -115,7 +115,7 @@ module _ (f g : ℕ → Reading) (from to : ℕ) (v : Reading) (order : from < t
   set_lists [] x y d l fo j = absurd l.0
   set_lists (p ∷ ps) x y d l fo j =
       let c = listed_chain f p ps l in
-      let zero-start : p.start ≡ 0 = l.0.0 in
+      let zero_start : p.start ≡ 0 = l.0.0 in
       let n : ℕ = lead (to + 1) ps in
       let more : lead (to + 1) (p ∷ ps) ≡ suc n = lead_yes (to + 1) p ps (omega arith) in
       let at : lead (to + 1) (p ∷ ps) - 1 ≡ n = omega arith in
@@ -127,7 +127,7 @@ module _ (f g : ℕ → Reading) (from to : ℕ) (v : Reading) (order : from < t
       let one : lead from (p ∷ ps) ≡ suc (lead from ps) = lead_yes from p ps h in
       let fo' : Joins from v (last_from p.value (take (lead from ps) ps)) x = subst (λ m. Follows (take m (p ∷ ps)) from v x) one fo in
       subst (λ m. Lists g (take m (p ∷ ps) ++ (optional x ++ (optional y ++ drop n ps)))) (sym one)
-      (chain_listed g p (take (lead from ps) ps ++ (optional x ++ (optional y ++ drop n ps))) zero-start
+      (chain_listed g p (take (lead from ps) ps ++ (optional x ++ (optional y ++ drop n ps))) zero_start
       (join g p (take (lead from ps) ps) from v x (optional y ++ drop n ps) None fo'
       (chain_as f g p (take (lead from ps) ps) (Some from) (λ u a b. sym (sets.before u b)) (front f from p ps c h)) tl)))
       (λ (h : from ≤ p.start).

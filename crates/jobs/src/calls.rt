@@ -7,6 +7,7 @@ ghost use Rattle.jobs.specs.Jobs.{state_of, cells_of, Looked};
 
 use crate::fault::{EnterFault, NoSuchLine};
 use crate::job::Job;
+use crate::stretch::Stretch;
 use meaning::reading::Reading;
 
 impl<'a> Job<'a> {
@@ -38,8 +39,13 @@ impl<'a> Job<'a> {
         ensures turn { JobTurn (state_of self.old) (enter line from to lower upper) (enter_reply result) (state_of self.new) }
         ensures cells { Changes line (cells_of self.old) (cells_of self.new) result }
     {
-        let reading = self.held.checked(line as usize, from, to, lower, upper)?;
-        self.held.write(line as usize, from, to, reading)
+        let stretch = Stretch {
+            line: line as usize,
+            from,
+            to,
+        };
+        let reading = self.held.checked(stretch, lower, upper)?;
+        self.held.write(stretch, reading)
     }
 
     // The line's first tick with the widest reading, of which nothing is known.

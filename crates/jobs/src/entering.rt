@@ -8,6 +8,7 @@ ghost use Rattle.jobs.specs.Entries.{Barred, Ready, Checked, Changes};
 use crate::fault::EnterFault;
 use crate::held::{Held, LINE_CELLS};
 use crate::splice::{size_after, splice};
+use crate::stretch::Stretch;
 use meaning::reading::Reading;
 
 // The last tick at which an entry may end.
@@ -18,16 +19,16 @@ const ROOM: usize = LINE_CELLS;
 
 impl<'a> Held<'a> {
     // What stands against an entry whatever is read: the job, the line or the ticks.
-    fn barred(&self, line: usize, from: u32, to: u32) -> Result<(), EnterFault>
-        ensures { Barred self.now.sealed self.now.lines line from to result }
+    fn barred(&self, stretch: Stretch) -> Result<(), EnterFault>
+        ensures { Barred self.now.sealed self.now.lines stretch.line stretch.from stretch.to result }
     {
         if self.sealed {
             return Err(EnterFault::Sealed);
         }
-        if line >= self.lines {
+        if stretch.line >= self.lines {
             return Err(EnterFault::NoSuchLine);
         }
-        if from >= to || to > END {
+        if stretch.from >= stretch.to || stretch.to > END {
             return Err(EnterFault::BadStretch);
         }
         Ok(())
@@ -36,41 +37,35 @@ impl<'a> Held<'a> {
     // The reading to be entered, or why it cannot be; only whether there is room for it is left open.
     pub(crate) fn checked(
         &self,
-        line: usize,
-        from: u32,
-        to: u32,
+        stretch: Stretch,
         lower: i32,
         upper: i32,
     ) -> Result<Reading, EnterFault>
         requires { HeldSound self.now }
-        ensures { Checked (held_state self.now) line from to lower upper result }
+        ensures { Checked (held_state self.now) stretch.line stretch.from stretch.to lower upper result }
     {
-        self.barred(line, from, to)?;
+        self.barred(stretch)?;
         let Some(reading) = Reading::new(lower, upper) else {
             return Err(EnterFault::NotReading);
         };
-        if !self.line(line).narrows(from, to, reading) {
+        let line = self.line(stretch.line);
+        if !line.narrows(stretch.from, stretch.to, reading) {
             return Err(EnterFault::NotInside);
         }
         Ok(reading)
     }
 
     // Sets the reading on the stretch and counts the entry, unless the line would have too many pieces.
-    pub(crate) fn write(
-        &mut self,
-        line: usize,
-        from: u32,
-        to: u32,
-        reading: Reading,
-    ) -> Result<(), EnterFault>
+    pub(crate) fn write(&mut self, stretch: Stretch, reading: Reading) -> Result<(), EnterFault>
         requires sound { HeldSound self.old }
-        requires there { line < self.old.lines }
-        requires ready { Ready (held_state self.old) line from to reading }
+        requires there { stretch.line < self.old.lines }
+        requires ready { Ready (held_state self.old) stretch.line stretch.from stretch.to reading }
         ensures sound { HeldSound self.new }
-        ensures turn { JobTurn (held_state self.old) (enter line from to reading.lower reading.upper) (enter_reply result) (held_state self.new) }
-        ensures cells { Changes line (held_cells self.old) (held_cells self.new) result }
+        ensures turn { JobTurn (held_state self.old) (enter stretch.line stretch.from stretch.to reading.lower reading.upper) (enter_reply result) (held_state self.new) }
+        ensures cells { Changes stretch.line (held_cells self.old) (held_cells self.new) result }
     {
-        let edit = self.line(line).plan(from, to, reading);
+        let line = stretch.line;
+        let edit = self.line(line).plan(stretch.from, stretch.to, reading);
         let count = self.counts[line];
         let size = size_after(edit, count);
         if size > ROOM {

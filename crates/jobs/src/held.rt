@@ -8,8 +8,10 @@ pub(crate) const MOST_LINES: usize = 16;
 // How many cells each line has of its own.
 pub(crate) const LINE_CELLS: usize = 64;
 
-// The pieces of line k are the first `counts[k]` of its cells, which begin at cell 64 * k: the cells are the caller's, and nothing else is kept of
-// the lines but how many each has in use. That a job is sealed is a flag, since a call that borrows the job seals it in place.
+// The pieces of line k are the first `counts[k]` of its cells, which begin at cell 64 * k.
+// The counts are a table by line and no vector that fills: a job has its lines from the start.
+// That it is sealed is a flag, since a call that borrows the job seals it in place.
+// Methods here ask for `HeldSound`, which a `Job` keeps: one that changes several fields in turn breaks it in between.
 #[derive(Drop)]
 pub(crate) struct Held<'a> {
     pub(crate) cells: &'a mut [Piece<Reading>],

@@ -13,3 +13,4 @@ pub mod number;
 pub mod opening;
 mod plan;
 mod splice;
+mod stretch;

@@ -52,7 +52,7 @@ module _ {V C : Type 0} (val : V → C) (f : ℕ → ℕ → C) where
         let whole : all pss ≡ (all qss ++ qs) ++ (tail ++ others) =
         all_split pss k kp ∙ ap (λ zss. all zss ++ (get_or pss k [] ++ others)) same ∙ ap (λ zs. all qss ++ (zs ++ others)) rest.1.1
         ∙ ap (λ zs. all qss ++ zs) (append_assoc qs tail others) ∙ sym (append_assoc (all qss) qs (tail ++ others)) in
-        let cells-full : length (all qss ++ qs) ≡ length first = sym (ap length filled) ∙ length-map after (meant val) ∙ kept ∙ size in
+        let cells_full : length (all qss ++ qs) ≡ length first = sym (ap length filled) ∙ length-map after (meant val) ∙ kept ∙ size in
         let sum : length (all pss) ≡ length first + (length tail + length others) =
-        ap length whole ∙ length-append (all qss ++ qs) (tail ++ others) ∙ ap₂ (λ m n. m + n) cells-full (length-append tail others) in
-        (omega (arith, sum, rest.1.0), filled ∙ sym (ap (take (length first)) whole ∙ take_at (all qss ++ qs) (tail ++ others) (length first) cells-full))
+        ap length whole ∙ length-append (all qss ++ qs) (tail ++ others) ∙ ap₂ (λ m n. m + n) cells_full (length-append tail others) in
+        (omega (arith, sum, rest.1.0), filled ∙ sym (ap (take (length first)) whole ∙ take_at (all qss ++ qs) (tail ++ others) (length first) cells_full))

@@ -1,5 +1,5 @@
 -- Which lines a table of rows tests, and what a job reads on a line that it lacks.
-use Rattle.std.proofs.Common.{◌≡◌, ℕ, ◌+◌, ◌<◌, ◌≤◌, leb, List, [], length, ℤ, sym, refl, ap, subst, ⊎_elim, arith, le-leb, leb-true}
+use Rattle.std.proofs.Common.{◌≡◌, ℕ, ◌+◌, ◌<◌, ◌≤◌, leb, List, [], length, ℤ, Some, None, Option, unwrap_or, sym, refl, ap, ◌∙◌, subst, ⊎_elim, arith, le-leb, leb-true}
 use Rattle.std.proofs.lemmas.List.{get_or_past}
 use Rattle.std.proofs.lemmas.Bool.{cases_lt}
 use Rattle.grades.specs.Kinds.{Tells}
@@ -7,9 +7,12 @@ use Rattle.rules.specs.declared.row.Side.{Side}
 use Rattle.rules.specs.declared.row.Row.{Row}
 use Rattle.rules.specs.declared.row.Row.TheVariants.{Test, Not, And, Or, Eventually, Always, Until}
 use Rattle.rules.specs.Rows.{row_at}
+use Rattle.pieces.specs.Ticks.{Steady}
+use Rattle.meaning.specs.declared.reading.Reading.{Reading}
 use Rattle.meaning.specs.Readings.{widest}
 use Rattle.meaning.specs.Marks.{Tests}
 use Rattle.runs.specs.States.{State, reading_at, readings_of}
+use Rattle.jobs.specs.Jobs.{Looked}
 use Rattle.judge.proofs.Anys.{tells_from}
 
 -- the row tests a line that is not among the first ones
@@ -50,3 +53,8 @@ module _ (rows : List Row) (lines : ℕ) where
 
 pub lacked_reads : (s : State) (line u : ℕ) → length s.lines ≤ line → readings_of s line u ≡ widest
 lacked_reads s line u h = ap (λ ps. reading_at ps u) (get_or_past s.lines line [] h)
+
+-- a look-up, or the widest reading for ever where the line is lacking, is a step of what the line reads
+pub reads_on : (s : State) (line t : ℕ) (o : Option (Reading × Option ℕ)) (w : Reading) → w ≡ widest → Looked s line t o → Steady (readings_of s line) t (unwrap_or o (w, None)).0 (unwrap_or o (w, None)).1
+reads_on s line t None w e h = (tt, λ u a b. e ∙ sym (lacked_reads s line u h))
+reads_on s line t (Some r) w e h = h.1

@@ -1,12 +1,12 @@
 -- Where a child is wanted, from lists that are looked up.
-use Rattle.std.proofs.Common.{◌≡◌, ℕ, Bool, true, false, cond, ◌&&◌, eqb, leb, List, [], ◌∷◌, Option, sym, ap, ◌∙◌, subst, arith, le-leb}
+use Rattle.std.proofs.Common.{◌≡◌, ℕ, Bool, true, false, cond, ◌&&◌, ◌⊎◌, eqb, leb, List, [], ◌∷◌, Option, sym, ap, ◌∙◌, subst, ⊎_elim, arith, le-leb}
 use borrow.Author.Tests.{clash}
 use Rattle.grades.specs.Kinds.{Kind}
 use Rattle.grades.specs.Ranges.{spans}
 use Rattle.grades.specs.Worth.{worth}
 use Rattle.grades.specs.declared.range.Range.{Range}
 use Rattle.rules.specs.declared.row.Row.{Row}
-use Rattle.rules.specs.declared.row.Row.TheVariants.{Until}
+use Rattle.rules.specs.declared.row.Row.TheVariants.{Not, And, Or, Eventually, Always, Until}
 use Rattle.pieces.specs.declared.piece.Piece.{Piece}
 use Rattle.pieces.specs.Pieces.{at_from, at_list, ordered}
 use Rattle.pieces.specs.Ticks.{Steady}
@@ -20,7 +20,7 @@ use Rattle.judge.specs.Reaches.{sees, holds}
 use Rattle.judge.specs.Signals.{heard}
 use Rattle.judge.specs.Places.{list_at}
 use Rattle.judge.specs.Trials.{tried, range_says, asked}
-use Rattle.judge.specs.Children.{child_says, said, row_says, asks_at, passed_on}
+use Rattle.judge.specs.Children.{never, child_says, said, row_says, asks_at, passed_on}
 
 -- an ordered list says the same whatever is in force before it
 list_said : {C : Type 0} (d : C) (ps : List (Piece C)) (ok : ordered ps ≡ true) (t : ℕ) → at_list ps ok t ≡ at_from d ps t
@@ -65,6 +65,19 @@ module _ (K : Kind) {G : Type 0} (value : G → K.Value) where
       passed st =
           subst (λ q. Steady (passed_on K value begins ranges q k c limit (said want)) t v o) (sym is)
           (subst (λ (f : ℕ → Bool). Steady (child_says r c f (row_says K value begins ranges Lowest) (row_says K value begins ranges Higher) limit) t v o) alike st)
+
+    module _ (row : Row) (k c limit t : ℕ) (want : List (Piece Bool)) (asks : ℕ → Bool) (alike : asks ≡ asked (said want) (row_says K value begins ranges Loose k)) (v : Bool) (o : Option ℕ) where
+      -- a connective asks for its child at its own tick
+      pub passed_here : ((d : ℕ) × (row ≡ Not d)) ⊎ (((l : ℕ) × (r : ℕ) × (row ≡ And l r)) ⊎ ((l : ℕ) × (r : ℕ) × (row ≡ Or l r))) → Steady (λ u. any (λ s. sees asks never 0 0 s u) limit) t v o → Steady (passed_on K value begins ranges row k c limit (said want)) t v o
+      passed_here is st =
+          ⊎_elim (λ h. passed row (Not h.0) h.1 k c limit t want asks alike v o st)
+          (⊎_elim (λ h. passed row (And h.0 h.1) h.2 k c limit t want asks alike v o st) (λ h. passed row (Or h.0 h.1) h.2 k c limit t want asks alike v o st))
+          is
+
+      -- F and G ask for theirs over the window
+      pub passed_window : (a b : ℕ) → ((d : ℕ) × (row ≡ Eventually a b d)) ⊎ ((d : ℕ) × (row ≡ Always a b d)) → Steady (λ u. any (λ s. sees asks never a b s u) limit) t v o → Steady (passed_on K value begins ranges row k c limit (said want)) t v o
+      passed_window a b is st =
+          ⊎_elim (λ h. passed row (Eventually a b h.0) h.1 k c limit t want asks alike v o st) (λ h. passed row (Always a b h.0) h.1 k c limit t want asks alike v o st) is
 
     module _ (row : Row) (a b l r : ℕ) (is : row ≡ Until a b l r) (k c limit t : ℕ) (want : List (Piece Bool)) (asks : ℕ → Bool) (alike : asks ≡ asked (said want) (row_says K value begins ranges Loose k)) (dead : ℕ → Bool) (low : dead ≡ row_says K value begins ranges Lowest l) (v : Bool) (o : Option ℕ) where
       abbrev Right : (ℕ → Bool) → ℕ → Bool

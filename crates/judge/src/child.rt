@@ -2,6 +2,7 @@
 // A step walks over the pieces of its signals, and each walk passes a piece once. No walk begins more than `to` ticks
 // before t, and one that goes past t + to ends at most `to` ticks after the next tick that the step names. So a want
 // list costs its changes times the pieces in a window, and not times the runs of asking ticks as well.
+// Signals and window are parameters: a struct of them would be written out at each of its calls.
 ghost use Rattle.std.specs.Prelude.{◌≡◌, ◌-◌, ◌<◌, ◌≤◌, true, false, ◌||◌};
 ghost use Rattle.pieces.specs.Ticks.{Steady};
 ghost use Rattle.judge.specs.Yes.{any, Clear};

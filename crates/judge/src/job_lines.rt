@@ -11,9 +11,7 @@ impl<'a> Lines for Job<'a> {
     ghost x = { λ j. readings_of (state_of j) };
 
     fn read(&self, line: u8, t: u32) -> (Reading, Option<u32>) {
-        match self.reading(line, t as u64) {
-            Some(found) => found,
-            None => (Reading::widest(), None),
-        }
+        self.reading(line, t as u64)
+            .unwrap_or((Reading::widest(), None))
     }
 }

@@ -1,4 +1,6 @@
 // A table that was judged, as marking goes by it.
+// What holds of it, `JudgedStands`, is asked by its methods and is no ghost field: part of it is the lists that stand in the cells, and a ghost
+// field has to have one proof at most.
 use crate::lists::Lists;
 use grades::range::Range;
 use rules::row::Row;

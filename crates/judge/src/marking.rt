@@ -36,17 +36,15 @@ impl<'a, 'b, 'c, 'd, G: Grade, L: Lines> Judged<'a, 'b, 'c, 'd, G, L> {
         requires { JudgedStands G.Grade.kind G.Grade.value L.Lines.x self.now }
         ensures { MarkedTable G.Grade.kind self.now.rows.now (L.Lines.x self.now.lines.now) self.now.tick wants.old wants.new marks.old marks.new result }
     {
-        let Ok(starts) = self.write_wants(wants) else {
-            return Err(MarkFault::WantCells);
-        };
+        let starts = self
+            .write_wants(wants)
+            .map_err(|_full| MarkFault::WantCells)?;
         let written = Lists {
             begins: &starts,
             cells: wants,
         };
-        let Ok(count) = self.write_marks(written, marks) else {
-            return Err(MarkFault::MarkCells);
-        };
-        Ok(count)
+        self.write_marks(written, marks)
+            .map_err(|_full| MarkFault::MarkCells)
     }
 }
 

@@ -10,12 +10,12 @@ fn has_child(row: Row, c: usize) -> bool
 {
     match row {
         Row::Test { .. } => false,
-        Row::Not { child } => c == child,
-        Row::And { left, right } => c == left || c == right,
-        Row::Or { left, right } => c == left || c == right,
-        Row::Eventually { child, .. } => c == child,
-        Row::Always { child, .. } => c == child,
-        Row::Until { left, right, .. } => c == left || c == right,
+        Row::Not { child } | Row::Eventually { child, .. } | Row::Always { child, .. } => {
+            c == child
+        }
+        Row::And { left, right } | Row::Or { left, right } | Row::Until { left, right, .. } => {
+            c == left || c == right
+        }
     }
 }
 

@@ -25,7 +25,6 @@ fn write_rows<G: Grade, L: Lines>(
     requires settles { (line : ℕ) → Settles (L.Lines.x lines.now line) }
     ensures { RowsWritten G.Grade.kind G.Grade.value rows.now (L.Lines.x lines.now) cells.old cells.new result }
 {
-    // Where lists begin is kept in an array, since judging allocates nothing; a rule has 64 rows at most.
     let mut begins = [0usize; 65];
     let mut used = 0;
     for (k, row) in rows.iter().enumerate() {

@@ -71,7 +71,6 @@ impl<'a, 'b, 'c, 'd, G: Grade, L: Lines> Judged<'a, 'b, 'c, 'd, G, L> {
         requires { JudgedStands G.Grade.kind G.Grade.value L.Lines.x self.now }
         ensures { WantsWritten G.Grade.kind self.now.rows.now (L.Lines.x self.now.lines.now) self.now.tick wants.old wants.new result }
     {
-        // Where lists start is kept in an array, since marking allocates nothing; a rule has 64 rows at most.
         let mut starts = [0usize; 65];
         let mut used = 0;
         // The number of rows behind is what counts here: no row is looked at by it.

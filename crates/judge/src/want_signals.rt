@@ -72,13 +72,8 @@ impl<'a, 'b, 'c, G: Grade> Signal<bool> for ChildRow<'a, 'b, 'c, G> {
         };
         match self.row {
             Row::Test { .. } => (false, None),
-            Row::Not { .. } => right_at(&asks, &Never, here, t),
-            Row::And { .. } => right_at(&asks, &Never, here, t),
-            Row::Or { .. } => right_at(&asks, &Never, here, t),
-            Row::Eventually { from, to, .. } => {
-                right_at(&asks, &Never, Window { from, to, limit }, t)
-            }
-            Row::Always { from, to, .. } => {
+            Row::Not { .. } | Row::And { .. } | Row::Or { .. } => right_at(&asks, &Never, here, t),
+            Row::Eventually { from, to, .. } | Row::Always { from, to, .. } => {
                 right_at(&asks, &Never, Window { from, to, limit }, t)
             }
             Row::Until {

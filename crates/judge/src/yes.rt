@@ -8,10 +8,7 @@ use crate::yesno::YesNo;
 pub(crate) fn clipped(next: Option<u32>, end: u32) -> u32
     ensures { result ≡ clip next end }
 {
-    match next {
-        None => end,
-        Some(n) => n.min(end),
-    }
+    next.unwrap_or(end).min(end)
 }
 
 // The first tick from `from` on at which the signal is `value`, or `end` where there is none before it.

@@ -11,19 +11,6 @@ cond-true true x e = (refl, e)
 cond-true false x e = absurd (clash e)
 
 module _ {V : Type 0} where
-  -- the code's test, from the first piece on
-  pub ordered_is : (xs : List (Piece V)) (p : Piece V) → (length xs ≡ 0 → ⊥) → (get_or xs 0 p).start ≡ 0 → ascending 0 (drop 1 xs) ≡ ordered xs
-  ordered_is [] p n e = absurd (n refl)
-  ordered_is (x ∷ xs) p n e = sym (ap (λ (b : Bool). cond b (ascending 0 xs) false) (eq-eqb x.start 0 e))
-
-  pub ascending_more : (xs : List (Piece V)) (i s : ℕ) (p : Piece V) → i < length xs → s < (get_or xs i p).start → ascending s (drop i xs) ≡ ascending (get_or xs i p).start (drop (i + 1) xs)
-  ascending_more xs i s p w h =
-      ap (ascending s) (drop_more xs i p w) ∙ ap (λ (b : Bool). cond b (ascending (get_or xs i p).start (drop (i + 1) xs)) false) (lt-ltb s (get_or xs i p).start h)
-
-  pub ascending_not : (xs : List (Piece V)) (i s : ℕ) (p : Piece V) → i < length xs → (get_or xs i p).start ≤ s → ascending s (drop i xs) ≡ false
-  ascending_not xs i s p w h =
-      ap (ascending s) (drop_more xs i p w) ∙ ap (λ (b : Bool). cond b (ascending (get_or xs i p).start (drop (i + 1) xs)) false) (le-ltb s (get_or xs i p).start h)
-
   pub first : (xs : List (Piece V)) → ordered xs ≡ true → (0 < length xs) × ((d : Piece V) → (get_or xs 0 d).start ≡ 0)
   first [] e = absurd (clash e)
   first (x ∷ xs) e = (omega arith, λ d. eqb-true x.start 0 (cond-true (eqb x.start 0) (ascending 0 xs) e).0)

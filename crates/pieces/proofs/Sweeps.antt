@@ -66,11 +66,6 @@ module _ {V C : Type 0} (val : V → C) (f : ℕ → C) where
     all_put : Put before used (piece 0 first ∷ G.pieces) cells
     all_put = put_first before cells used (piece 0 first) G.pieces room G.put
 
-    -- the cells that were done before the sweep are as they were
-    pub going_kept : take used cells ≡ take used before
-    going_kept =
-        going_done (set before used (piece 0 first)) (used + 1) first cells end last next G used (omega arith) (omega (arith, length-set before used (piece 0 first))) ∙ take-set before used (piece 0 first)
-
     -- the signal changes no more
     pub going_whole : next ≡ None → Whole val f before used cells end
     going_whole e = record {

@@ -9,7 +9,9 @@ use crate::signal::Signal;
 #[derive(Clone, Copy)]
 pub struct Full;
 
-// Writes the signal's list into the cells from `used` on, and gives the first cell behind it. The cells are the caller's, so nothing is allocated, and places are counted. A signal may name a next tick at which nothing changes: same values are joined.
+// Writes the signal's list into the cells from `used` on, and gives the first cell behind it.
+// A signal may name a next tick at which nothing changes: same values are joined.
+// The cells are the caller's, so nothing is allocated, and places are counted.
 pub fn sweep<V: Same, S: Signal<V>>(
     source: &S,
     cells: &mut [Piece<V>],

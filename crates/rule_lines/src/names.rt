@@ -12,7 +12,7 @@ const PART_BYTES: usize = 9;
 
 const SPACE: u8 = b' ';
 
-// The first 16 parts of a line, each cut; part `ended` goes on, if it is one of the 16.
+// The first 16 parts of a line, each cut; part `ended` goes on, if it is one of the 16. An array, since an input can be copied.
 #[derive(Clone, Copy)]
 pub(crate) struct Names {
     parts: [Front<PART_BYTES>; NAMES],

@@ -49,10 +49,6 @@ pub w_e : {ts : List Token} {at a b d f i n o : ℕ} → Took Left ts at a → T
 w_e {n = n} {o = o} t u v w m =
     stops_as m.same (omega (arith, t.next, u.next, v.next, w.next)) w.within (no_right n o (t.text ∙ ap (add Left) (u.text ∙ ap (add (Number n)) (v.text ∙ ap (add Comma) w.text))) m.isnt)
 
-pub w_ok : {ts : List Token} {at a b d f g n o : ℕ} → Took Left ts at a → Took (Number n) ts a b → Took Comma ts b d → Took (Number o) ts d f → Took Right ts f g → ReadAs (span n o) ts at g
-w_ok {n = n} {o = o} t u v w x =
-    reads_as (span n o) (omega (arith, t.next, u.next, v.next, w.next, x.next)) x.within (t.text ∙ ap (add Left) (u.text ∙ ap (add (Number n)) (v.text ∙ ap (add Comma) (w.text ∙ ap (add (Number o)) x.text)))) tt
-
 -- limits
 pub l_end : (ts : List Token) (at i : ℕ) → at ≤ length ts → i ≡ at → length ts ≤ at → StopsAt limit ts at i
 l_end ts at i le same h = stops_as same (omega arith) le (no_limit (at_end (λ r. NoLimit r) ts at h tt))

@@ -11,8 +11,7 @@ impl RuleFault {
         ensures { result ≡ fault_number self }
     {
         match self {
-            RuleFault::Empty => 12,
-            RuleFault::Token(TokenFault::TooLong) => 12,
+            RuleFault::Empty | RuleFault::Token(TokenFault::TooLong) => 12,
             RuleFault::Token(TokenFault::Malformed { .. }) => 13,
             RuleFault::Grammar { .. } => 14,
             RuleFault::UnknownName { .. } => 15,
@@ -28,11 +27,11 @@ impl RuleFault {
         ensures { result ≡ fault_place self }
     {
         match self {
-            RuleFault::Token(TokenFault::Malformed { at }) => at,
-            RuleFault::Grammar { at } => at,
-            RuleFault::UnknownName { at } => at,
-            RuleFault::OutOfBounds { at } => at,
-            RuleFault::TooDeep { at } => at,
+            RuleFault::Token(TokenFault::Malformed { at })
+            | RuleFault::Grammar { at }
+            | RuleFault::UnknownName { at }
+            | RuleFault::OutOfBounds { at }
+            | RuleFault::TooDeep { at } => at,
             RuleFault::Empty
             | RuleFault::Token(TokenFault::TooLong)
             | RuleFault::TooManyRows

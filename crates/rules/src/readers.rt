@@ -39,6 +39,7 @@ struct Done {
 }
 
 // The tokens of a text. Phrases are read from a place on, where `depth` tokens that make depth are around.
+// A place stays a number, since each reader answers the next one.
 #[derive(Clone, Copy)]
 pub(crate) struct Source<'a> {
     pub(crate) tokens: &'a [Token],
@@ -159,6 +160,9 @@ impl Source<'_> {
             root,
         })
     }
+
+    // The three that follow call one another, as the phrases of the grammar do: each falls by the place, and hands the depth and the table on.
+    // `expression` and `meet` are alike but for what they read and join; a reader that is handed in would leave that cycle.
 
     // Meets joined by `|`, grouped from the left.
     #[cycle(expression_meet_part)]

@@ -149,14 +149,3 @@ module _ (names : List (List ℕ)) (text : List ℕ) (at : ℕ) (here : at < len
   order_word more equals t s =
       let both = two_bytes more equals in
       record { on = omega arith; within = omega arith; spells = subst (λ w. Spells names w t) (sym both) s; longest = subst (λ w. Longest w (drop (at + 2) text)) (sym both) (solid (61 ∷ []) _) }
-
-  pub symbol_fault : NoSign (get_or text at 0) → (at + 1 < length text → get_or text (at + 1) 0 ≡ 61 → NoOrder (get_or text at 0)) → FaultAt names text at (Malformed at)
-  symbol_fault no_sign no_order =
-      let whole = drop_more text at 0 here in
-      let after : Begins (λ c. c ≡ 61) (drop (at + 1) text) → NoOrder (get_or text at 0) =
-      λ b. ⊎_elim (λ more. no_order more (at_begins (λ c. c ≡ 61) text (at + 1) more b)) (λ past. absurd (ends_at (λ c. c ≡ 61) text (at + 1) past b)) (cases_lt (at + 1) (length text)) in
-      record {
-        place = refl;
-        none =
-            no_word (simp length-drop (omega arith)) no_blank (λ w rest t e s. none_starts names (get_or text at 0) (drop (at + 1) text) rest no_sign after (λ h. no_small (begins_at Small text at here h)) (λ h. no_digit (begins_at Digit text at here h)) w t (sym whole ∙ e) s);
-      }

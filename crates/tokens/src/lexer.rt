@@ -33,7 +33,7 @@ fn is_blank(byte: &u8) -> bool
 }
 
 // Whether a name may go on with the byte.
-fn is_name_byte(byte: &u8) -> bool
+pub fn is_name_byte(byte: &u8) -> bool
     ensures { Decides result (NameByte byte.now) }
 {
     byte.is_ascii_lowercase() || byte.is_ascii_digit()

@@ -5,7 +5,8 @@ ghost use Rattle.arrayvec.specs.ArrayVec.{ArrayVec};
 use super::token::Token;
 use arrayvec::ArrayVec;
 
-// A token takes a byte at least, so 1,024 bytes have no more tokens than that. Each has its place at its own number, in a vector beside them: the readers of a rule go over the tokens alone.
+// A token takes a byte at least, so 1,024 bytes have no more tokens than that.
+// Places are a vector of their own, since the readers of a rule go over the tokens alone.
 #[derive(Drop)]
 pub struct Tokens {
     tokens: ArrayVec<Token, 1024>,

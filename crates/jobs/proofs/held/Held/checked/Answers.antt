@@ -10,14 +10,14 @@ returns-in_err-barred c =
     let h = c.args.self.now in
     let p = err_from_is_err_and c.from_residual.result c.from_residual.ensures.1 in
     rw (p.1, p.2)
-    (barred_fails (held_state h) h.lines (length_lines h.cells.now h.lines h.counts) c.args.line c.args.from c.args.to c.args.lower c.args.upper c.in_err-barred.field-0.0 c.in_err-barred.ensures)
+    (barred_fails (held_state h) h.lines (length_lines h.cells.now h.lines h.counts) c.args.stretch.line c.args.stretch.from c.args.stretch.to c.args.lower c.args.upper c.in_err-barred.field-0.0 c.in_err-barred.ensures)
 
 pub returns-in_default : goal.returns-in_default
 returns-in_default c =
     let h = c.args.self.now in
     let l = c.args.lower in
     let u = c.args.upper in
-    fails_4 (held_state h) h.lines (length_lines h.cells.now h.lines h.counts) c.args.line c.args.from c.args.to l u c.in_ok-barred.ensures
+    fails_4 (held_state h) h.lines (length_lines h.cells.now h.lines h.counts) c.args.stretch.line c.args.stretch.from c.args.stretch.to l u c.in_ok-barred.ensures
     (reads_as (to_z w32 (of_z w32 l)) (to_z w32 (of_z w32 u)) l u None (to_z-of_z c.ranges.lower) (to_z-of_z c.ranges.upper) c.in_default.ensures)
 
 pub returns-then-not-narrows : goal.returns-then-not-narrows
@@ -27,9 +27,9 @@ returns-then-not-narrows c =
     let u = c.args.upper in
     let p = c.in-Some.reading in
     let b = c.in_ok-barred.ensures in
-    fails_5 (held_state h) h.lines (length_lines h.cells.now h.lines h.counts) c.args.line c.args.from c.args.to l u b
+    fails_5 (held_state h) h.lines (length_lines h.cells.now h.lines h.counts) c.args.stretch.line c.args.stretch.from c.args.stretch.to l u b
     p (reads_as (to_z w32 (of_z w32 l)) (to_z w32 (of_z w32 u)) l u (Some p) (to_z-of_z c.ranges.lower) (to_z-of_z c.ranges.upper) c.in-Some.ensures)
-    c.line.result.pieces.now (line_at h.cells.now h.lines h.counts c.args.line b.1 ∙ sym c.line.ensures.are) c.if-not-narrows.ensures
+    c.line-line.result.pieces.now (line_at h.cells.now h.lines h.counts c.args.stretch.line b.1 ∙ sym c.line-line.ensures.are) c.if-not-narrows.ensures
 
 pub returns : goal.returns
 returns c =
@@ -40,6 +40,6 @@ returns c =
     let b = c.in_ok-barred.ensures in
     let r = reads_as (to_z w32 (of_z w32 l)) (to_z w32 (of_z w32 u)) l u (Some p) (to_z-of_z c.ranges.lower) (to_z-of_z c.ranges.upper) c.in-Some.ensures in (
       r,
-      is_ready (held_state h) h.lines (length_lines h.cells.now h.lines h.counts) c.args.line c.args.from c.args.to l u b p r
-          c.line.result.pieces.now (line_at h.cells.now h.lines h.counts c.args.line b.1 ∙ sym c.line.ensures.are) c.if-not-narrows.ensures,
+      is_ready (held_state h) h.lines (length_lines h.cells.now h.lines h.counts) c.args.stretch.line c.args.stretch.from c.args.stretch.to l u b p r
+          c.line-line.result.pieces.now (line_at h.cells.now h.lines h.counts c.args.stretch.line b.1 ∙ sym c.line-line.ensures.are) c.if-not-narrows.ensures,
     )

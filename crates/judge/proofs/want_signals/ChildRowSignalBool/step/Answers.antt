@@ -2,7 +2,7 @@ use Rattle.std.proofs.Common.{refl, inl, inr, eq-eqb, ne_eqb}
 use Rattle.rules.specs.declared.row.Row.TheVariants.{Until}
 use Rattle.judge.specs.declared.trial.Trial.TheVariants.{Lowest, Higher}
 use Rattle.judge.proofs.RowSteps.{stands}
-use Rattle.judge.proofs.WantSteps.{asks_said, trial_said, passed, passed_right, passed_left}
+use Rattle.judge.proofs.WantSteps.{asks_said, trial_said, passed_here, passed_window, passed_right, passed_left}
 use Rattle.judge.proofs.want_signals.ChildRowSignalBool.step.Goals as goal
 
 pub list-requires : goal.list-requires
@@ -13,33 +13,27 @@ list-requires-else-self-right g c = stands c.args.self.now.row (Until c.in-Until
 
 pub returns-in-Not-clause-steady : goal.returns-in-Not-clause-steady
 returns-in-Not-clause-steady g c =
+    let K = g.G.Grade.kind in
+    let val = g.G.Grade.value in
+    let s = c.args.self.now in
+    let begins = s.ranges.begins.now in
+    let ranges = s.ranges.cells.now in
     let range = c.list-range in
-    passed g.G.Grade.kind g.G.Grade.value c.args.self.now.ranges.begins.now c.args.self.now.ranges.cells.now c.args.self.now.row _ c.in-Not.is c.args.self.now.number c.args.self.now.child c.args.self.now.limit c.args.t c.args.self.now.want.pieces.now _
-    (asks_said g.G.Grade.kind g.G.Grade.value c.args.self.now.ranges.begins.now c.args.self.now.ranges.cells.now c.args.self.now.want.pieces.now _ c.args.self.now.number range.result.pieces.now range.result.ok range.ensures) c.right_at.result.0 c.right_at.result.1 c.right_at.ensures
-
-pub returns-in-And-clause-steady : goal.returns-in-And-clause-steady
-returns-in-And-clause-steady g c =
-    let range = c.list-range in
-    passed g.G.Grade.kind g.G.Grade.value c.args.self.now.ranges.begins.now c.args.self.now.ranges.cells.now c.args.self.now.row _ c.in-And.is c.args.self.now.number c.args.self.now.child c.args.self.now.limit c.args.t c.args.self.now.want.pieces.now _
-    (asks_said g.G.Grade.kind g.G.Grade.value c.args.self.now.ranges.begins.now c.args.self.now.ranges.cells.now c.args.self.now.want.pieces.now _ c.args.self.now.number range.result.pieces.now range.result.ok range.ensures) c.right_at-in-And.result.0 c.right_at-in-And.result.1 c.right_at-in-And.ensures
-
-pub returns-in-Or-clause-steady : goal.returns-in-Or-clause-steady
-returns-in-Or-clause-steady g c =
-    let range = c.list-range in
-    passed g.G.Grade.kind g.G.Grade.value c.args.self.now.ranges.begins.now c.args.self.now.ranges.cells.now c.args.self.now.row _ c.in-Or.is c.args.self.now.number c.args.self.now.child c.args.self.now.limit c.args.t c.args.self.now.want.pieces.now _
-    (asks_said g.G.Grade.kind g.G.Grade.value c.args.self.now.ranges.begins.now c.args.self.now.ranges.cells.now c.args.self.now.want.pieces.now _ c.args.self.now.number range.result.pieces.now range.result.ok range.ensures) c.right_at-in-Or.result.0 c.right_at-in-Or.result.1 c.right_at-in-Or.ensures
+    let called = c.right_at in
+    passed_here K val begins ranges s.row s.number s.child s.limit c.args.t s.want.pieces.now _
+    (asks_said K val begins ranges s.want.pieces.now _ s.number range.result.pieces.now range.result.ok range.ensures) called.result.0 called.result.1 c.in-Not.is called.ensures
 
 pub returns-in-Eventually-clause-steady : goal.returns-in-Eventually-clause-steady
 returns-in-Eventually-clause-steady g c =
+    let K = g.G.Grade.kind in
+    let val = g.G.Grade.value in
+    let s = c.args.self.now in
+    let begins = s.ranges.begins.now in
+    let ranges = s.ranges.cells.now in
     let range = c.list-range in
-    passed g.G.Grade.kind g.G.Grade.value c.args.self.now.ranges.begins.now c.args.self.now.ranges.cells.now c.args.self.now.row _ c.in-Eventually.is c.args.self.now.number c.args.self.now.child c.args.self.now.limit c.args.t c.args.self.now.want.pieces.now _
-    (asks_said g.G.Grade.kind g.G.Grade.value c.args.self.now.ranges.begins.now c.args.self.now.ranges.cells.now c.args.self.now.want.pieces.now _ c.args.self.now.number range.result.pieces.now range.result.ok range.ensures) c.right_at-in-Eventually.result.0 c.right_at-in-Eventually.result.1 c.right_at-in-Eventually.ensures
-
-pub returns-in-Always-clause-steady : goal.returns-in-Always-clause-steady
-returns-in-Always-clause-steady g c =
-    let range = c.list-range in
-    passed g.G.Grade.kind g.G.Grade.value c.args.self.now.ranges.begins.now c.args.self.now.ranges.cells.now c.args.self.now.row _ c.in-Always.is c.args.self.now.number c.args.self.now.child c.args.self.now.limit c.args.t c.args.self.now.want.pieces.now _
-    (asks_said g.G.Grade.kind g.G.Grade.value c.args.self.now.ranges.begins.now c.args.self.now.ranges.cells.now c.args.self.now.want.pieces.now _ c.args.self.now.number range.result.pieces.now range.result.ok range.ensures) c.right_at-in-Always.result.0 c.right_at-in-Always.result.1 c.right_at-in-Always.ensures
+    let called = c.right_at-in-Eventually in
+    passed_window K val begins ranges s.row s.number s.child s.limit c.args.t s.want.pieces.now _
+    (asks_said K val begins ranges s.want.pieces.now _ s.number range.result.pieces.now range.result.ok range.ensures) called.result.0 called.result.1 c.in-Eventually.from c.in-Eventually.to c.in-Eventually.is called.ensures
 
 pub returns-then-self-right-clause-steady : goal.returns-then-self-right-clause-steady
 returns-then-self-right-clause-steady g c =
