@@ -1,7 +1,7 @@
 // Judging a rule on a job.
 ghost use Rattle.std.specs.Prelude.{◌≡◌, ℕ, ◌<◌, ◌≤◌, length};
 ghost use Rattle.grades.specs.Kinds.{Tells};
-ghost use Rattle.rules.specs.Rows.{row_at, Sound};
+ghost use Rattle.rules.specs.Rows.{row_at};
 ghost use Rattle.rules.specs.Texts.{table_of};
 ghost use Rattle.meaning.specs.Marks.{Tests};
 ghost use Rattle.runs.specs.States.{readings_of};
@@ -44,23 +44,22 @@ fn has_lines(rows: &[Row], lines: usize) -> bool
     true
 }
 
-// Judges a table of rows on the job, or says why not.
+// Judges a rule's table on the job, or says why not.
 pub(crate) fn judge_table<'a, G: Grade>(
     job: &Job<'a>,
-    rows: &[Row],
+    rule: &Rule,
     tick: u32,
     cells: &mut [Piece<Range<G>>],
 ) -> Result<Judgement<G>, JudgeFault>
-    requires { Sound rows.now }
-    ensures { JudgedTable G.Grade.kind G.Grade.value (state_of job.now) rows.now tick cells.old cells.new result }
+    ensures { JudgedTable G.Grade.kind G.Grade.value (state_of job.now) (table_of rule.now) tick cells.old cells.new result }
 {
-    if !has_lines(rows, job.lines()) {
+    if !has_lines(rule.rows(), job.lines()) {
         return Err(JudgeFault::NoSuchLine);
     }
     if tick > LAST_TICK {
         return Err(JudgeFault::LateTick);
     }
-    let judgement = judge_rows(job, rows, tick, cells)?;
+    let judgement = judge_rows(job, rule, tick, cells)?;
     Ok(judgement)
 }
 
@@ -74,6 +73,6 @@ pub fn judge<'a, G: Grade>(
     ensures turn { JudgeTurn G.Grade.kind (state_of job.now) (table_of rule.now) tick (length cells.old) (judge_reply G.Grade.kind G.Grade.value result) }
     ensures cells { JudgeCells G.Grade.kind G.Grade.value (table_of rule.now) (readings_of (state_of job.now)) cells.old cells.new result }
 {
-    let judgement = judge_table(job, rule.rows(), tick, cells)?;
+    let judgement = judge_table(job, rule, tick, cells)?;
     Ok(judgement.verdict)
 }

@@ -64,7 +64,7 @@ pub fn mark<'a, G: Grade>(
 {
     runs_keep_the_law::<Alone<G>>();
     let rows = rule.rows();
-    let judgement = judge_table(job, rows, tick, cells)?;
+    let judgement = judge_table(job, rule, tick, cells)?;
     let judged = Judged {
         lines: job,
         rows,

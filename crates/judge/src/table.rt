@@ -1,6 +1,7 @@
 // The whole table of rows.
 ghost use Rattle.std.specs.Prelude.{ℕ};
 ghost use Rattle.rules.specs.Rows.{Sound};
+ghost use Rattle.rules.specs.Texts.{table_of};
 ghost use Rattle.pieces.specs.Ticks.{Settles};
 ghost use Rattle.judge.specs.Judges.{RowsWritten, Judged};
 
@@ -14,6 +15,7 @@ use grades::range::Range;
 use pieces::piece::Piece;
 use pieces::sweep::Full;
 use rules::row::Row;
+use rules::rule::Rule;
 
 // Writes the lists of all rows, in row order, and gives where each begins and the last ends.
 fn write_rows<G: Grade, L: Lines>(
@@ -34,17 +36,17 @@ fn write_rows<G: Grade, L: Lines>(
     Ok(begins)
 }
 
-// Judges a sound table: writes the lists of all rows, and gives the last row's range at the tick and where the lists begin.
+// Judges a rule's table: writes the lists of all rows, and gives the last row's range at the tick and where the lists begin.
 pub(crate) fn judge_rows<G: Grade, L: Lines>(
     lines: &L,
-    rows: &[Row],
+    rule: &Rule,
     tick: u32,
     cells: &mut [Piece<Range<G>>],
 ) -> Result<Judgement<G>, Full>
-    requires sound { Sound rows.now }
-    requires settles { (line : ℕ) → Settles (L.Lines.x lines.now line) }
-    ensures { Judged G.Grade.kind G.Grade.value rows.now (L.Lines.x lines.now) cells.old cells.new tick result }
+    requires { (line : ℕ) → Settles (L.Lines.x lines.now line) }
+    ensures { Judged G.Grade.kind G.Grade.value (table_of rule.now) (L.Lines.x lines.now) cells.old cells.new tick result }
 {
+    let rows = rule.rows();
     let begins = write_rows(lines, rows, cells)?;
     let lists = Lists {
         begins: &begins,

@@ -1,10 +1,10 @@
-use Rattle.std.proofs.Common.{[], length, Ok, Err, sym, ap, ◌∙◌, subst}
+use Rattle.std.proofs.Common.{[], length, Err, sym, ap, ◌∙◌, subst}
 use Rattle.std.proofs.lemmas.Result.{err_from_is_err_and}
 use Rattle.rules.specs.Texts.{table_of}
 use Rattle.runs.specs.States.{readings_of}
 use Rattle.runs.specs.Calls.{JudgeTurn}
 use Rattle.jobs.specs.Jobs.{state_of}
-use Rattle.judge.specs.Answers.{JudgedTable, judge_reply, JudgeCells}
+use Rattle.judge.specs.Answers.{judge_reply, JudgeCells}
 use Rattle.judge.proofs.JudgedTables.{refused_first, refused_cells, judged_turn}
 use Rattle.judge.proofs.judging.judge.Goals as goal
 
@@ -17,7 +17,7 @@ returns-in_err-judgement g c =
     let before = c.args.cells.now in
     let after = c.judge_table.new.cells in
     let f = c.in_err-judgement.field-0.0 in
-    let h = subst (λ rs. JudgedTable K val s rs c.args.tick before after (Err f)) c.rows.ensures.is c.in_err-judgement.ensures in
+    let h = c.in_err-judgement.ensures in
     let p = err_from_is_err_and c.from_residual.result c.from_residual.ensures.1 in
     let e = p.1 ∙ ap Err p.2 in
     record {
@@ -34,5 +34,5 @@ returns g c =
     let before = c.args.cells.now in
     let after = c.judge_table.new.cells in
     let j = c.in_ok-judgement.judgement in
-    let h = subst (λ rs. JudgedTable K val s rs c.args.tick before after (Ok j)) c.rows.ensures.is c.in_ok-judgement.ensures in
+    let h = c.in_ok-judgement.ensures in
     record { turn = judged_turn K val s rows c.args.tick before after j h; cells = (h.2.0, h.2.1.0) }

@@ -5,7 +5,8 @@ use Rattle.rules.specs.Rows.{Sound, reach}
 use Rattle.runs.specs.States.{readings_of}
 use Rattle.runs.specs.Calls.{MarkTurn}
 use Rattle.jobs.specs.Jobs.{state_of}
-use Rattle.judge.specs.Answers.{JudgedTable, MarkedTable, mark_reply, MarkedCells}
+use Rattle.judge.specs.Markings.{RangesStand}
+use Rattle.judge.specs.Answers.{MarkedTable, mark_reply, MarkedCells}
 use Rattle.judge.proofs.JudgedTables.{refused_cells}
 use Rattle.judge.proofs.MarkedTables.{refused_turn, short_turn, short_cells, marked_turn, judged_stand}
 use Rattle.judge.proofs.marking.mark.Goals as goal
@@ -22,7 +23,7 @@ returns-in_err-judgement g c =
     let after = c.judge_table.new.cells in
     let f = c.in_err-judgement.field-0.0 in
     let sound = subst Sound c.rows-rows.ensures.is c.rows-rows.ensures.sound in
-    let h = subst (λ rs. JudgedTable K val s rs c.args.tick cells after (Err f)) c.rows-rows.ensures.is c.in_err-judgement.ensures in
+    let h = c.in_err-judgement.ensures in
     let p = err_from_is_err_and c.from_residual.result c.from_residual.ensures.1 in
     let e = p.1 ∙ ap Err p.2 in
     record {
@@ -34,13 +35,17 @@ returns-in_err-judgement g c =
 pub mark-requires : goal.mark-requires
 mark-requires g c =
     let s = state_of c.args.job.now in
-    let rows = c.rows-rows.result.now in
+    let rows = table_of c.args.rule.now in
+    let is = c.rows-rows.ensures.is in
+    let sound = c.rows-rows.ensures.sound in
     let h = c.in_ok-judgement.ensures in
+    let j = c.in_ok-judgement.judgement in
     record {
-      sound = c.rows-rows.ensures.sound;
+      sound = sound;
       near = h.1;
-      end = ap (λ n. c.args.tick + n + 1) (c.reach.ensures ∙ ap reach (sym c.rows-rows.ensures.is));
-      stand = judged_stand g.met.G.Grade.lawful g.G.Grade.value s rows c.rows-rows.ensures.sound c.args.tick c.args.cells.now c.judge_table.new.cells c.args.wants.now c.args.wants.now c.args.marks.now c.args.marks.now c.in_ok-judgement.judgement h c.judge_table.auto.cells;
+      end = ap (λ n. c.args.tick + n + 1) (c.reach.ensures ∙ ap reach (sym is));
+      stand = subst (λ rs. RangesStand g.G.Grade.kind rs (readings_of s) g.G.Grade.value j.begins c.judge_table.new.cells) (sym is)
+          (judged_stand g.met.G.Grade.lawful g.G.Grade.value s rows (subst Sound is sound) c.args.tick c.args.cells.now c.judge_table.new.cells c.args.wants.now c.args.wants.now c.args.marks.now c.args.marks.now j h c.judge_table.auto.cells);
     }
 
 pub returns-in_err-count : goal.returns-in_err-count
@@ -59,7 +64,7 @@ returns-in_err-count g c =
     let is = c.rows-rows.ensures.is in
     let sound = subst Sound is c.rows-rows.ensures.sound in
     let j = c.in_ok-judgement.judgement in
-    let h = subst (λ rs. JudgedTable K val s rs c.args.tick cells after (Ok j)) is c.in_ok-judgement.ensures in
+    let h = c.in_ok-judgement.ensures in
     let m = subst (λ rs. MarkedTable K rs (readings_of s) c.args.tick wants wants' marks marks' (Err f)) is c.in_err-count.ensures in
     let p = err_from_is_err_and c.from_residual-in_err-count.result c.from_residual-in_err-count.ensures.1 in
     let e = p.1 ∙ ap Err p.2 in
@@ -85,7 +90,7 @@ returns g c =
     let is = c.rows-rows.ensures.is in
     let sound = subst Sound is c.rows-rows.ensures.sound in
     let j = c.in_ok-judgement.judgement in
-    let h = subst (λ rs. JudgedTable K val s rs c.args.tick cells after (Ok j)) is c.in_ok-judgement.ensures in
+    let h = c.in_ok-judgement.ensures in
     let m = subst (λ rs. MarkedTable K rs (readings_of s) c.args.tick wants wants' marks marks' (Ok n)) is c.in_ok-count.ensures in
     record {
       turn = marked_turn g.met.G.Grade.lawful val s rows sound c.args.tick cells after wants wants' marks marks' j h n m;
