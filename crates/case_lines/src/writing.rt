@@ -13,7 +13,7 @@ use meaning::mark::Mark;
 use meaning::outcome::Outcome;
 use std::alloc::AllocError;
 
-// Refusal `number` of a field.
+// Refusal `number` of a field. The number is what is printed, of the enums of several crates.
 pub(crate) fn write_refused(text: &mut String, number: u8, field: usize) -> Result<(), AllocError>
     ensures { Adds (string_bytes text.old) result (refused_line number field) (string_bytes text.new) }
 {

@@ -24,6 +24,7 @@ const SAMPLES: [&str; 5] = [
 fn list(case: &[u8], heap: Global) -> Result<String, AllocError>
     ensures { IfOk result (λ shown. Listed case.now (string_bytes shown)) }
 {
+    // A program's cells are arrays of its own, handed on as slices.
     let mut pieces = [blank_piece(); PIECES];
     let mut truths = [blank_row(); ROWS];
     let mut margins = [blank_row(); ROWS];

@@ -31,6 +31,7 @@ pub(crate) struct Example<'a> {
 pub(crate) fn listing(heap: Global, lent: Lent, case: &[u8]) -> Result<String, AllocError>
     ensures { IfOk result (λ text. Listing (lent_cells 1024 (min lent.rows 64) (min lent.rows 64) (min lent.wants 64) (min lent.marks 64)) case.now (string_bytes text)) }
 {
+    // A program's cells are arrays of its own, handed on as slices.
     let mut pieces = [blank_piece(); PIECES];
     let mut truths = [blank_row(); MOST];
     let mut margins = [blank_row(); MOST];

@@ -48,7 +48,7 @@ fn rule_of<'a>(text: &'a [u8]) -> Option<Content<'a>>
     (text.len() <= RULE_BYTES).then_some(Content::Rule(text))
 }
 
-// The five words, if there are five.
+// The five words, if there are five. Each is named as it is cut.
 fn five_words<'a>(words: &'a [u8]) -> Option<EntryWords<'a>>
     ensures { Five words.now result }
 {

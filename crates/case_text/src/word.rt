@@ -17,7 +17,7 @@ pub(crate) fn is_line_name(word: &[u8]) -> bool
     !word.is_empty() && word.len() <= NAME_BYTES && !word.contains(&SPACE)
 }
 
-// The number of the first of the names that is this word.
+// The number of the first of the names that is this word. One library call, as where a rule is read, which has another bound and another clause.
 pub(crate) fn line_of(names: &[&[u8]], word: &[u8]) -> Option<u8>
     ensures { Reads (First (texts names.now) word.now) result }
 {

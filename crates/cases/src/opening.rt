@@ -39,6 +39,7 @@ impl<'a> CaseReader<'a> {
         ensures { Opens (self.old.number + 1) [] (left_of self.old) (heading_reply result self.new) }
     {
         let mut names: ArrayVec<&'a [u8], NAMES> = ArrayVec::new();
+        // Field by field until the rule: there is no list to go over.
         loop {
             let field = wanted(self)?;
             let found = head(names.as_slice(), field).map_err(|fault| fault.at(field.number))?;

@@ -1,4 +1,4 @@
-// The tags of fields: L, R, E and T.
+// The tags of fields: L, R, E and T. Bytes and no enum, since any byte may stand where a tag should.
 pub const NAME: u8 = b'L';
 
 pub const RULE: u8 = b'R';

@@ -19,6 +19,7 @@ fn fill(source: &mut impl Read, buffer: &mut [u8]) -> io::Result<usize>
     ensures { IfOk result (λ n. n ≤ length buffer.old) }
 {
     let mut size = 0;
+    // Reads are counted, so that the loop is seen to end.
     for _ in 0..u64::MAX {
         let more = source.read(&mut buffer[size..])?;
         if more == 0 {
@@ -32,6 +33,7 @@ fn fill(source: &mut impl Read, buffer: &mut [u8]) -> io::Result<usize>
 fn main(rt: HostRuntime) -> io::Result<()> {
     let mut case = [0u8; INPUT_BYTES];
     let size = fill(&mut rt.stdin(), &mut case)?;
+    // A program's cells are arrays of its own, handed on as slices.
     let mut pieces = [blank_piece(); PIECES];
     let mut truths = [blank_row(); ROWS];
     let mut margins = [blank_row(); ROWS];
