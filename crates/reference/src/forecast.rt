@@ -21,6 +21,7 @@ const WIDEST: Ends = Ends {
     upper: 500_000,
 };
 
+// Arrays, so that a forecast is copied and opened without a heap and cannot fail.
 #[derive(Clone, Copy)]
 pub struct Forecast {
     pub lines: usize,
