@@ -1,5 +1,5 @@
 -- What is known of lines, tick by tick, and what an entry is answered.
-use Rattle.std.specs.Prelude.{◌≡◌, ℕ, ◌+◌, ◌<◌, ◌≤◌, min, Bool, true, false, cond, ◌&&◌, List, pos, negsuc, ◌≤ℤ◌, Some, None, Option, MatchOption, Ok, Err, Result, ◌≢◌, ◌==◌, nat_le, nat_lt, slice_get, slice_index_or}
+use Rattle.std.specs.Prelude.{◌≡◌, ℕ, ◌+◌, ◌<◌, ◌≤◌, min, Bool, true, false, List, pos, negsuc, ◌≤ℤ◌, Some, None, Option, MatchOption, Ok, Err, Result, ◌≢◌, slice_get, slice_index_or}
 use Rattle.reference.specs.declared.ends.Ends.{Ends}
 use Rattle.reference.specs.declared.forecast.Forecast.{Forecast}
 use Rattle.cases.specs.declared.field.Entry.{Entry}
@@ -55,17 +55,13 @@ Answered f e (Err NotReading) = (f.sealed ≡ false) × (e.line < f.lines) × St
 Answered f e (Err NotInside) = (f.sealed ≡ false) × (e.line < f.lines) × Stretch e × Readable e × (Narrows f e → ⊥)
 Answered f e (Err TooManyPieces) = ⊥
 
--- the entry's reading in its stretch, and what stood there elsewhere
-abbrev pub entered : Forecast → Entry → ℕ → ℕ → Ends
-entered f e line t = cond (line == e.line && (nat_le e.from t && nat_lt t e.to)) (ends_of e) (reading f line t)
-
--- the entry is made, and nothing else is changed
-pub record Set (f : Forecast) (e : Entry) (g : Forecast) : Type 0 where
+-- setting a reading leaves all else alone
+pub record Kept (f g : Forecast) : Type 0 where
   pub lines : g.lines ≡ f.lines
   pub sealed : g.sealed ≡ f.sealed
   pub tally : g.tally ≡ f.tally
 
--- what an entry leaves: it is made and counted, unless it is turned down
+-- an entry is counted, and the job stays open with its lines; one that is turned down changes nothing
 abbrev pub Left : Forecast → Entry → Result (Unit {0}) EnterFault → Forecast → Type 0
 Left f e (Ok u) g = (g.lines ≡ f.lines) × (g.sealed ≡ f.sealed) × (g.tally ≡ min (f.tally + 1) 4294967295)
 Left f e (Err fault) g = g ≡ f

@@ -1,6 +1,6 @@
 // What is known of up to three lines, kept tick by tick up to a horizon.
 ghost use Rattle.std.specs.Prelude.{◌≡◌, min};
-ghost use Rattle.reference.specs.Known.{reading, Within, Tells, Narrows, Answered, Set, Left, Changed};
+ghost use Rattle.reference.specs.Known.{reading, Within, Tells, Narrows, Answered, Kept, Left, Changed};
 
 use crate::ends::Ends;
 use cases::field::Entry;
@@ -87,7 +87,7 @@ impl Forecast {
     }
 
     fn set(&mut self, entry: Entry)
-        ensures { Set self.old entry self.new }
+        ensures { Kept self.old self.new }
     {
         if let Some(readings) = self.readings.get_mut(entry.line as usize)
             && let Some(readings) = readings.get_mut(kept_ticks(entry))
