@@ -1,4 +1,7 @@
 // Cells that the judge writes, told apart and compared.
+ghost use Rattle.std.specs.Prelude.{◌≡◌, ℤ, pos, negsuc, true, not, take_while};
+ghost use Rattle.compare.specs.Scales.{Numbers, truth_number, truths_numbered, margins_numbered};
+
 use grades::grade::Grade;
 use grades::margin::Margin;
 use grades::range::Range;
@@ -13,11 +16,21 @@ use std::alloc::{AllocError, Global};
 pub trait Measured: Grade {
     type Scale: Scale;
 
-    fn measure(self) -> i32;
+    // The grade on the scale.
+    ghost number: { Self → ℤ };
+
+    fn measure(self) -> i32
+        ensures { result ≡ number self };
+
+    ghost numbers: { Numbers Self.Grade.kind Self.Grade.value Self.Scale.grading number };
 }
 
 impl Measured for Truth {
     type Scale = Truths;
+
+    ghost number = { λ t. truth_number t.holds };
+
+    ghost numbers = { truths_numbered (λ t. t.holds) };
 
     fn measure(self) -> i32 {
         self.holds as i32
@@ -27,20 +40,28 @@ impl Measured for Truth {
 impl Measured for Margin {
     type Scale = Margins;
 
+    ghost number = { λ m. m.number };
+
+    ghost numbers = { margins_numbered (λ m. record { number = m.number; ok = m.ok }) };
+
     fn measure(self) -> i32 {
         self.number()
     }
 }
 
 // No `From`: neither ranges nor ends are of this crate.
-pub fn ends_of<G: Measured>(range: Range<G>) -> Ends {
+pub fn ends_of<G: Measured>(range: Range<G>) -> Ends
+    ensures { result ≡ record { lower = G.number range.lower; upper = G.number range.upper } }
+{
     Ends {
         lower: range.lower.measure(),
         upper: range.upper.measure(),
     }
 }
 
-pub(crate) fn ends_read(reading: Reading) -> Ends {
+pub(crate) fn ends_read(reading: Reading) -> Ends
+    ensures { result ≡ record { lower = reading.lower; upper = reading.upper } }
+{
     Ends {
         lower: reading.lower(),
         upper: reading.upper(),
@@ -51,14 +72,24 @@ pub(crate) fn ends_read(reading: Reading) -> Ends {
 pub trait Plain: Copy {
     type Plain: Copy + PartialEq;
 
-    // What stands in a piece that was not written.
-    fn blank() -> Self;
+    ghost plain: { Self → Self.Plain };
 
-    fn plain(self) -> Self::Plain;
+    ghost unwritten: { Self.Plain };
+
+    // What stands in a piece that was not written.
+    fn blank() -> Self
+        ensures { plain result ≡ unwritten };
+
+    fn plain(self) -> Self::Plain
+        ensures { result ≡ plain self };
 }
 
 impl<G: Measured> Plain for Range<G> {
     type Plain = Ends;
+
+    ghost plain = { λ r. record { lower = G.number r.lower; upper = G.number r.upper } };
+
+    ghost unwritten = { record { lower = G.Scale.grading.highest; upper = G.Scale.grading.lowest } };
 
     // No range of the judge runs from the highest to the lowest.
     fn blank() -> Range<G> {
@@ -76,6 +107,10 @@ impl<G: Measured> Plain for Range<G> {
 impl Plain for bool {
     type Plain = bool;
 
+    ghost plain = { λ b. b };
+
+    ghost unwritten = { true };
+
     fn blank() -> bool {
         true
     }
@@ -87,6 +122,10 @@ impl Plain for bool {
 
 impl Plain for Reading {
     type Plain = Ends;
+
+    ghost plain = { λ p. record { lower = p.lower; upper = p.upper } };
+
+    ghost unwritten = { record { lower = negsuc 499999; upper = pos 500000 } };
 
     fn blank() -> Reading {
         Reading::widest()
@@ -108,14 +147,24 @@ pub trait Cell: Copy {
     // All that a cell holds.
     type Held: Copy + PartialEq;
 
-    // What stands in a cell that was not written.
-    fn blank() -> Self;
+    ghost held: { Self → Self.Held };
 
-    fn held(self) -> Self::Held;
+    ghost unwritten: { Self.Held };
+
+    // What stands in a cell that was not written.
+    fn blank() -> Self
+        ensures { held result ≡ unwritten };
+
+    fn held(self) -> Self::Held
+        ensures { result ≡ held self };
 }
 
 impl<V: Plain> Cell for Piece<V> {
     type Held = Held<V::Plain>;
+
+    ghost held = { λ p. record { start = p.start; value = V.plain p.value } };
+
+    ghost unwritten = { record { start = 4294967295; value = V.unwritten } };
 
     fn blank() -> Piece<V> {
         Piece {
@@ -135,6 +184,10 @@ impl<V: Plain> Cell for Piece<V> {
 impl Cell for Mark {
     type Held = Mark;
 
+    ghost held = { λ m. m };
+
+    ghost unwritten = { record { row = 999; first = 4294967295; after = 0 } };
+
     fn blank() -> Mark {
         Mark {
             row: 999,
@@ -152,12 +205,16 @@ pub fn blanks<C: Cell>(heap: Global, count: usize) -> Result<Vec<C>, AllocError>
     vec![in heap; C::blank(); count]
 }
 
-fn is_blank<C: Cell>(cell: C) -> bool {
+fn is_blank<C: Cell>(cell: C) -> bool
+    ensures { result ≡ C.Held.eq (C.held cell) C.unwritten }
+{
     cell.held() == C::blank().held()
 }
 
 // The cells that were written, from the first on.
-pub fn written<C: Cell>(cells: &[C]) -> &[C] {
+pub fn written<C: Cell>(cells: &[C]) -> &[C]
+    ensures { result.now ≡ take_while (λ c. not (C.Held.eq (C.held c) C.unwritten)) cells.now }
+{
     let used = cells.iter().take_while(|cell| !is_blank(**cell)).count();
     &cells[..used]
 }

@@ -1,4 +1,9 @@
 // Entries, made on a job and on the reference.
+ghost use Rattle.std.specs.Prelude.{◌≡◌, IfOk};
+ghost use Rattle.jobs.specs.Jobs.{state_of};
+ghost use Rattle.reference.specs.Known.{Answered};
+ghost use Rattle.compare.specs.Entering.{EntersBoth};
+
 use crate::cells::ends_read;
 use crate::mismatch::{Mismatch, ensure};
 use cases::field::Entry;
@@ -42,7 +47,10 @@ impl Pair<'_> {
     }
 
     // Makes the entry on both, and gives their answer.
-    pub fn enter(&mut self, entry: Entry) -> Result<Result<(), EnterFault>, Mismatch> {
+    pub fn enter(&mut self, entry: Entry) -> Result<Result<(), EnterFault>, Mismatch>
+        ensures job { EntersBoth (state_of self.old.job) entry result (state_of self.new.job) }
+        ensures reference { IfOk result (λ r. Answered self.old.forecast entry r) }
+    {
         let answer = self.forecast.enter(entry);
         let found = self
             .job

@@ -1,4 +1,10 @@
 // Judging, held against the reference.
+ghost use Rattle.std.specs.Prelude.{◌≡◌, ℕ, ◌≤◌};
+ghost use Rattle.grades.specs.Kinds.{Tells};
+ghost use Rattle.rules.specs.Texts.{table_of};
+ghost use Rattle.meaning.specs.Marks.{Tests};
+ghost use Rattle.compare.specs.Questions.{Barred};
+
 use crate::cells::{Measured, begin_alike, blank_from, blanks, ends_of, hold, written};
 use crate::lists::row_list;
 use crate::mismatch::{Mismatch, ensure};
@@ -14,7 +20,9 @@ use rules::row::Row;
 // Cells enough for the row lists of each rule that comes.
 pub const ROW_CELLS: usize = 2048;
 
-fn tests_from(row: Row, lines: usize) -> bool {
+fn tests_from(row: Row, lines: usize) -> bool
+    ensures { Tells result ((line : ℕ) × Tests row line × (lines ≤ line)) }
+{
     matches!(row, Row::Test { line, .. } if line as usize >= lines)
 }
 
@@ -65,7 +73,9 @@ impl Question<'_, '_> {
     }
 
     // Why a job of so many lines turns the question down whatever the cells, if it does.
-    pub fn bar(&self, lines: usize) -> Option<JudgeFault> {
+    pub fn bar(&self, lines: usize) -> Option<JudgeFault>
+        ensures { Barred (table_of self.now.rule.now) self.now.tick lines result }
+    {
         if self.rule.rows().iter().any(|row| tests_from(*row, lines)) {
             Some(JudgeFault::NoSuchLine)
         } else if self.tick > 500_000_000 {

@@ -1,4 +1,14 @@
 // The cells that are lent to a marking.
+ghost use Rattle.std.specs.Prelude.{◌≡◌, length, option_map};
+ghost use Rattle.rules.specs.Texts.{table_of};
+ghost use Rattle.runs.specs.Conditions.{FirstFailing};
+ghost use Rattle.runs.specs.Calls.{MarkTurn};
+ghost use Rattle.runs.specs.States.{readings_of};
+ghost use Rattle.jobs.specs.Jobs.{state_of};
+ghost use Rattle.judge.specs.Faults.{mark_number};
+ghost use Rattle.judge.specs.Answers.{mark_reply, MarkedCells};
+ghost use Rattle.compare.specs.Rooms.{cells_ask, written_in, tight_rooms};
+
 use crate::cells::{Measured, begin_alike, blank_from, blanks, written};
 use crate::question::Question;
 use grades::range::Range;
@@ -18,7 +28,9 @@ pub struct Room {
 
 impl Room {
     // Which refusal comes where the lists take `used`, if one does: the row lists go first, then the wants, then the marks.
-    pub fn refusal(self, used: Room) -> Option<MarkFault> {
+    pub fn refusal(self, used: Room) -> Option<MarkFault>
+        ensures { FirstFailing (cells_ask self used) (option_map mark_number result) }
+    {
         if self.rows < used.rows {
             Some(MarkFault::Judging(JudgeFault::RowCells))
         } else if self.wants < used.wants {
@@ -31,7 +43,9 @@ impl Room {
     }
 
     // One cell less of each kind in turn, and at last just these.
-    pub fn tight(self) -> [Room; 4] {
+    pub fn tight(self) -> [Room; 4]
+        ensures { result ≡ tight_rooms self }
+    {
         [
             Room {
                 rows: self.rows.saturating_sub(1),
@@ -50,7 +64,9 @@ impl Room {
     }
 
     // How much is written where the lists take `used`: nothing behind the list that is short.
-    pub fn filled(self, used: Room) -> Room {
+    pub fn filled(self, used: Room) -> Room
+        ensures { result ≡ written_in self used }
+    {
         match self.refusal(used) {
             None => used,
             Some(MarkFault::MarkCells) => Room {
@@ -86,7 +102,10 @@ impl<G: Measured> Lent<G> {
         Ok(Lent { rows, wants, marks })
     }
 
-    pub fn mark(&mut self, question: &Question<'_, '_>) -> Result<Marking<G>, MarkFault> {
+    pub fn mark(&mut self, question: &Question<'_, '_>) -> Result<Marking<G>, MarkFault>
+        ensures turn { MarkTurn G.kind (state_of question.now.job.now) (table_of question.now.rule.now) question.now.tick (length self.old.rows.items) (length self.old.wants.items) (length self.old.marks.items) (mark_reply G.kind G.value self.new.marks.items result) }
+        ensures cells { MarkedCells G.kind G.value (table_of question.now.rule.now) (readings_of (state_of question.now.job.now)) question.now.tick self.old.rows.items self.new.rows.items self.old.wants.items self.new.wants.items self.old.marks.items self.new.marks.items result }
+    {
         mark::<G>(
             question.job,
             question.rule,

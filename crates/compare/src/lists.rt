@@ -18,6 +18,7 @@ fn push_pieces<V: Copy + PartialEq, F: Fn(usize) -> V>(
     requires { F.IsAlwaysCallable value_at }
 {
     let mut before = None;
+    // By number: a tick is what the function is asked, and where a piece starts.
     for start in 0..ticks {
         let value = value_at(start as usize);
         if before != Some(value) {
@@ -35,6 +36,7 @@ pub(crate) fn row_list(
     values: &Values,
 ) -> Result<Vec<Held<Ends>>, AllocError> {
     let mut list = Vec::new(heap);
+    // By number: the reference is asked for a row by its number.
     for row in 0..rows {
         push_pieces(&mut list, TICKS as u32, |t| values.at(row, t))?;
     }
@@ -48,6 +50,7 @@ pub(crate) fn want_list(
     wants: &Wants,
 ) -> Result<Vec<Held<bool>>, AllocError> {
     let mut list = Vec::new(heap);
+    // By number, as above.
     for row in (0..rows).rev() {
         push_pieces(&mut list, WANT_TICKS as u32, |t| wants.at(row, t))?;
     }

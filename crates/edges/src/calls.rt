@@ -66,6 +66,7 @@ fn pieces(job: &Job<'_>, line: u8) -> u32 {
 }
 
 impl Call {
+    // The calls stand in a table with their replies, so they are data and not closures.
     fn play(&self, job: &mut Job<'_>) -> Reply {
         match self {
             Enter(entry) => match enter(job, *entry) {

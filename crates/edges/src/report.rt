@@ -9,7 +9,7 @@ pub(crate) struct Report<'r> {
 }
 
 impl Report<'_> {
-    // Counts a case and prints what it is answered.
+    // Counts a case and prints what it is answered. What is found and whether it is right come apart: the callers find them in different ways.
     pub(crate) fn note(
         &mut self,
         label: &str,

@@ -1,14 +1,28 @@
 // Ranges of grades as plain numbers.
+ghost use Rattle.std.specs.Prelude.{◌≡◌, ℤ, pos, negsuc, refl};
+ghost use Rattle.reference.specs.Gradings.{Grading, Lawful, truths, margins, truths_lawful, margins_lawful};
+ghost use Rattle.reference.specs.Known.{ends_of, Tells, Within};
+
 use cases::field::Entry;
 
 // A kind of grades as numbers.
 pub trait Scale {
     const LOWEST: i32;
 
-    // The grade of a gap.
-    fn grade(gap: i32) -> i32;
+    ghost LOWEST: { ℤ };
 
-    fn opposite(grade: i32) -> i32;
+    ghost grading: { Grading };
+
+    // The grade of a gap.
+    fn grade(gap: i32) -> i32
+        ensures { result ≡ grading.of_gap gap };
+
+    fn opposite(grade: i32) -> i32
+        ensures { grading.Grade grade → result ≡ grading.opposite grade };
+
+    ghost lowest: { LOWEST ≡ grading.lowest };
+
+    ghost lawful: { Lawful grading };
 }
 
 // 0 and 1 for false and true.
@@ -16,6 +30,14 @@ pub struct Truths;
 
 impl Scale for Truths {
     const LOWEST: i32 = 0;
+
+    ghost LOWEST = { pos 0 };
+
+    ghost grading = { truths };
+
+    ghost lowest = { refl };
+
+    ghost lawful = { truths_lawful };
 
     fn grade(gap: i32) -> i32 {
         (gap >= 0) as i32
@@ -31,6 +53,14 @@ pub struct Margins;
 
 impl Scale for Margins {
     const LOWEST: i32 = -1_000_000;
+
+    ghost LOWEST = { negsuc 999999 };
+
+    ghost grading = { margins };
+
+    ghost lowest = { refl };
+
+    ghost lawful = { margins_lawful };
 
     fn grade(gap: i32) -> i32 {
         gap
@@ -50,6 +80,8 @@ pub struct Ends {
 
 // The ends of an entry's reading.
 impl From<Entry> for Ends {
+    ghost from_gives = { λ e r. r ≡ ends_of e };
+
     fn from(entry: Entry) -> Ends {
         Ends {
             lower: entry.lower,
@@ -75,7 +107,10 @@ impl Ends {
         }
     }
 
-    pub fn opposite<S: Scale>(self) -> Ends {
+    pub fn opposite<S: Scale>(self) -> Ends
+        ensures lower { S.grading.Grade self.upper → result.lower ≡ S.grading.opposite self.upper }
+        ensures upper { S.grading.Grade self.lower → result.upper ≡ S.grading.opposite self.lower }
+    {
         Ends {
             lower: S::opposite(self.upper),
             upper: S::opposite(self.lower),
@@ -86,7 +121,9 @@ impl Ends {
         self.lower == self.upper
     }
 
-    pub fn inside(self, other: Ends) -> bool {
+    pub fn inside(self, other: Ends) -> bool
+        ensures { Tells result (Within self other) }
+    {
         other.lower <= self.lower && self.upper <= other.upper
     }
 }

@@ -1,4 +1,7 @@
 // What is known of up to three lines, kept tick by tick up to a horizon.
+ghost use Rattle.std.specs.Prelude.{◌≡◌, min};
+ghost use Rattle.reference.specs.Known.{reading, Within, Tells, Narrows, Answered, Kept, Left, Changed};
+
 use crate::ends::Ends;
 use cases::field::Entry;
 use jobs::fault::EnterFault;
@@ -18,6 +21,7 @@ const WIDEST: Ends = Ends {
     upper: 500_000,
 };
 
+// Arrays, so that a forecast is copied and opened without a heap and cannot fail.
 #[derive(Clone, Copy)]
 pub struct Forecast {
     pub lines: usize,
@@ -27,7 +31,9 @@ pub struct Forecast {
 }
 
 // The ticks of the entry that are kept.
-fn kept_ticks(entry: Entry) -> Range<usize> {
+fn kept_ticks(entry: Entry) -> Range<usize>
+    ensures { result ≡ record { start = entry.from; end = min entry.to 49 } }
+{
     entry.from as usize..(entry.to as usize).min(TICKS)
 }
 
@@ -41,7 +47,9 @@ impl Forecast {
         }
     }
 
-    pub fn reading(&self, line: usize, t: usize) -> Ends {
+    pub fn reading(&self, line: usize, t: usize) -> Ends
+        ensures { result ≡ reading self.now line t }
+    {
         match self.readings.get(line) {
             Some(readings) => readings[t.min(HORIZON)],
             None => WIDEST,
@@ -49,7 +57,9 @@ impl Forecast {
     }
 
     // What an entry that ends by the horizon is answered.
-    pub fn answer(&self, entry: Entry) -> Result<(), EnterFault> {
+    pub fn answer(&self, entry: Entry) -> Result<(), EnterFault>
+        ensures { Answered self.now entry result }
+    {
         if self.sealed {
             return Err(EnterFault::Sealed);
         }
@@ -69,12 +79,16 @@ impl Forecast {
     }
 
     // Whether the entry is inside what is known, wherever it is set.
-    fn narrowed_by(&self, entry: Entry) -> bool {
+    fn narrowed_by(&self, entry: Entry) -> bool
+        ensures { Tells result (Narrows self.now entry) }
+    {
         let ends = Ends::from(entry);
         kept_ticks(entry).all(|t| ends.inside(self.reading(entry.line as usize, t)))
     }
 
-    fn set(&mut self, entry: Entry) {
+    fn set(&mut self, entry: Entry)
+        ensures { Kept self.old self.new }
+    {
         if let Some(readings) = self.readings.get_mut(entry.line as usize)
             && let Some(readings) = readings.get_mut(kept_ticks(entry))
         {
@@ -83,7 +97,10 @@ impl Forecast {
     }
 
     // Makes the entry, unless it is refused.
-    pub fn enter(&mut self, entry: Entry) -> Result<(), EnterFault> {
+    pub fn enter(&mut self, entry: Entry) -> Result<(), EnterFault>
+        ensures answer { Answered self.old entry result }
+        ensures left { Left self.old entry result self.new }
+    {
         self.answer(entry)?;
         self.set(entry);
         self.tally = self.tally.saturating_add(1);
@@ -91,7 +108,9 @@ impl Forecast {
     }
 
     // The first tick behind t at which the line reads otherwise, if there is one.
-    pub fn change(&self, line: usize, t: usize) -> Option<usize> {
+    pub fn change(&self, line: usize, t: usize) -> Option<usize>
+        ensures { Changed self.now line t result }
+    {
         let reading = self.reading(line, t);
         (t..TICKS).find(|u| self.reading(line, *u) != reading)
     }

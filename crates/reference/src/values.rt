@@ -10,7 +10,7 @@ pub(crate) const ROWS: usize = 64;
 
 const NOTHING: Ends = Ends { lower: 0, upper: 0 };
 
-// From the horizon on every reading is the widest, so each row keeps its value from there on.
+// From the horizon on every reading is the widest, so each row keeps its value from there on. Arrays and not vectors, so that working them out cannot fail.
 #[derive(Clone, Copy)]
 pub struct Values {
     rows: [[Ends; TICKS]; ROWS],

@@ -7,6 +7,7 @@ use std::ops::Range;
 // The ticks that are kept: a row may be wanted at these alone.
 pub const WANT_TICKS: usize = 128;
 
+// Arrays and not vectors, so that working them out cannot fail.
 #[derive(Clone, Copy)]
 pub struct Wants {
     rows: [[bool; WANT_TICKS]; ROWS],

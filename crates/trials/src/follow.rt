@@ -60,7 +60,7 @@ impl Trials {
     // Makes the line's readings exact from the mark's first tick to its last, each by one of its ends.
     fn make_exact(&mut self, job: &mut Job<'_>, line: u8, mark: Mark) -> Result<(), EnterFault> {
         let mut t = mark.first;
-        // No line has more pieces.
+        // No line has more pieces. By count: each step goes on at the tick where the last ended, which the job tells.
         for _ in 0..64 {
             if t >= mark.after {
                 return Ok(());

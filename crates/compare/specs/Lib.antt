@@ -1,0 +1,4 @@
+pub mod Scales
+pub mod Rooms
+pub mod Questions
+pub mod Entering

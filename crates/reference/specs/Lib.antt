@@ -1,0 +1,2 @@
+pub mod Gradings
+pub mod Known
