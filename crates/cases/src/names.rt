@@ -17,9 +17,7 @@ fn is_name(word: &[u8]) -> bool
     let [first, ..] = word else {
         return false;
     };
-    first.is_ascii_lowercase()
-        && word.len() <= NAME_BYTES
-        && word.iter().all(is_name_byte)
+    first.is_ascii_lowercase() && word.len() <= NAME_BYTES && word.iter().all(is_name_byte)
 }
 
 // Whether the word may be the next name behind these.
