@@ -21,7 +21,7 @@ use pieces::piece::Piece;
 use rules::rule::Rule;
 use std::alloc::{AllocError, Global};
 
-// Carries out one field, and writes what it prints.
+// Carries out one field, and writes what it prints. Text, job, rule and cells stay parameters: a struct of these loans would have seven lifetimes.
 fn write_step<'a>(
     text: &mut String,
     job: &mut Job<'a>,

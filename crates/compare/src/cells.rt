@@ -68,7 +68,7 @@ pub(crate) fn ends_read(reading: Reading) -> Ends
     }
 }
 
-// What a piece may hold, and how it is compared: the judge's own values are not told equal by `==`.
+// What a piece may hold, and how it is compared: ranges of grades have no `==`.
 pub trait Plain: Copy {
     type Plain: Copy + PartialEq;
 
@@ -136,13 +136,6 @@ impl Plain for Reading {
     }
 }
 
-// A piece as the reference has it.
-#[derive(Clone, Copy, PartialEq, Eq)]
-pub struct Held<V> {
-    pub start: u32,
-    pub value: V,
-}
-
 pub trait Cell: Copy {
     // All that a cell holds.
     type Held: Copy + PartialEq;
@@ -160,7 +153,7 @@ pub trait Cell: Copy {
 }
 
 impl<V: Plain> Cell for Piece<V> {
-    type Held = Held<V::Plain>;
+    type Held = Piece<V::Plain>;
 
     ghost held = { λ p. record { start = p.start; value = V.plain p.value } };
 
@@ -173,8 +166,8 @@ impl<V: Plain> Cell for Piece<V> {
         }
     }
 
-    fn held(self) -> Held<V::Plain> {
-        Held {
+    fn held(self) -> Piece<V::Plain> {
+        Piece {
             start: self.start,
             value: self.value.plain(),
         }

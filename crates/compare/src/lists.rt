@@ -1,6 +1,6 @@
 // The lists that the cells should hold, as the reference has them.
-use crate::cells::Held;
 use meaning::mark::Mark;
+use pieces::piece::Piece;
 use reference::ends::Ends;
 use reference::forecast::TICKS;
 use reference::marks::marked;
@@ -11,7 +11,7 @@ use std::alloc::{AllocError, Global};
 
 // Adds the pieces of a function of ticks: one for each tick whose value is not that of the tick before.
 fn push_pieces<V: Copy + PartialEq, F: Fn(usize) -> V>(
-    list: &mut Vec<Held<V>>,
+    list: &mut Vec<Piece<V>>,
     ticks: u32,
     value_at: F,
 ) -> Result<(), AllocError>
@@ -22,7 +22,7 @@ fn push_pieces<V: Copy + PartialEq, F: Fn(usize) -> V>(
     for start in 0..ticks {
         let value = value_at(start as usize);
         if before != Some(value) {
-            list.push(Held { start, value })?;
+            list.push(Piece { start, value })?;
         }
         before = Some(value);
     }
@@ -34,7 +34,7 @@ pub(crate) fn row_list(
     heap: Global,
     rows: usize,
     values: &Values,
-) -> Result<Vec<Held<Ends>>, AllocError> {
+) -> Result<Vec<Piece<Ends>>, AllocError> {
     let mut list = Vec::new(heap);
     // By number: the reference is asked for a row by its number.
     for row in 0..rows {
@@ -48,7 +48,7 @@ pub(crate) fn want_list(
     heap: Global,
     rows: usize,
     wants: &Wants,
-) -> Result<Vec<Held<bool>>, AllocError> {
+) -> Result<Vec<Piece<bool>>, AllocError> {
     let mut list = Vec::new(heap);
     // By number, as above.
     for row in (0..rows).rev() {
