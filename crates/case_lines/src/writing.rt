@@ -32,7 +32,7 @@ pub(crate) fn write_refusal(text: &mut String, refusal: CaseRefusal) -> Result<(
     }
 }
 
-// What a verdict in truth comes to.
+// What a verdict in truth comes to. No `From`: neither ranges nor outcomes are of this crate.
 pub(crate) fn outcome_of(verdict: Range<Truth>) -> Outcome
     ensures { result ≡ outcome_of_lem (worth truths (λ t. t.holds) verdict) }
 {

@@ -13,8 +13,9 @@ use grades::range::Range;
 use pieces::list::PieceList;
 use pieces::ticks::{first_of, moved_back};
 
-// The upper, over the ticks u from first to end, of right at u with left at every tick from t to u; a tick up to which that stays at first, and one up to which it stays at end.
-// One walk over the pieces of both lists, with the lower of left so far.
+// The upper, over the ticks u from first to end, of right at u with left at every tick from t to u;
+// a tick up to which that stays at first, and one up to which it stays at end.
+// One walk over the pieces of both lists, with the lower of left so far. The two stay two parameters, as a row has two children.
 fn gather_until<G: Grade>(
     left: &PieceList<'_, Range<G>>,
     right: &PieceList<'_, Range<G>>,

@@ -1,4 +1,4 @@
-// How a row is written.
+// How a row is written. Rows are another crate's, so they are wrapped here.
 ghost use Rattle.std.specs.Prelude.{Some};
 ghost use Rattle.rule_lines.specs.Listing.{side_text, row_text};
 

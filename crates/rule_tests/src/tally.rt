@@ -10,7 +10,7 @@ pub(crate) struct Tally {
 }
 
 impl Tally {
-    // Counts a case and prints what it is answered.
+    // Counts a case and prints what it is answered. Whether that is right is a flag, since callers find the two in different ways.
     pub(crate) fn note(
         &mut self,
         rt: &HostRuntime,
