@@ -5,10 +5,14 @@ use Rattle.pieces.specs.Ticks.{Steady, Changed}
 use Rattle.meaning.specs.declared.reading.Reading.{Reading}
 use Rattle.runs.specs.States.{State, readings_of}
 use Rattle.jobs.specs.declared.job.Job.{Job}
-use Rattle.jobs.specs.Holds.{held_cells, held_state}
+use Rattle.jobs.specs.Holds.{held_cells, held_state, SameHeldLoan}
 
 abbrev pub cells_of : Job → List (Piece Reading)
 cells_of j = held_cells j.held
+
+-- a job over the same lent cells: what the one leaves in them when it ends, the other does
+abbrev pub SameLoan : Job → Job → Type 0
+SameLoan before after = SameHeldLoan before.held after.held
 
 abbrev pub state_of : Job → State
 state_of j = held_state j.held

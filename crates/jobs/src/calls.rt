@@ -3,7 +3,7 @@ ghost use Rattle.std.specs.Prelude.{◌≡◌, length, Ok};
 ghost use Rattle.runs.specs.Jobs.{JobTurn, enter, known, tally, seal, accepted, count};
 ghost use Rattle.jobs.specs.Faults.{enter_reply, known_reply};
 ghost use Rattle.jobs.specs.Entries.{Changes};
-ghost use Rattle.jobs.specs.Jobs.{state_of, cells_of, Looked};
+ghost use Rattle.jobs.specs.Jobs.{state_of, cells_of, SameLoan, Looked};
 
 use crate::fault::{EnterFault, NoSuchLine};
 use crate::job::Job;
@@ -38,6 +38,7 @@ impl<'a> Job<'a> {
     ) -> Result<(), EnterFault>
         ensures turn { JobTurn (state_of self.old) (enter line from to lower upper) (enter_reply result) (state_of self.new) }
         ensures cells { Changes line (cells_of self.old) (cells_of self.new) result }
+        ensures loan { SameLoan self.old self.new }
     {
         let stretch = Stretch {
             line: line as usize,
@@ -69,6 +70,7 @@ impl<'a> Job<'a> {
     pub fn seal(&mut self)
         ensures turn { JobTurn (state_of self.old) seal (Ok accepted) (state_of self.new) }
         ensures cells { cells_of self.new ≡ cells_of self.old }
+        ensures loan { SameLoan self.old self.new }
     {
         self.held.sealed = true;
     }

@@ -1,7 +1,7 @@
 // Entering readings.
 ghost use Rattle.std.specs.Prelude.{◌<◌};
 ghost use Rattle.runs.specs.Jobs.{JobTurn, enter};
-ghost use Rattle.jobs.specs.Holds.{held_cells, held_state, HeldSound};
+ghost use Rattle.jobs.specs.Holds.{held_cells, held_state, HeldSound, SameHeldLoan};
 ghost use Rattle.jobs.specs.Faults.{enter_reply};
 ghost use Rattle.jobs.specs.Entries.{Barred, Ready, Checked, Changes};
 
@@ -63,6 +63,7 @@ impl<'a> Held<'a> {
         ensures sound { HeldSound self.new }
         ensures turn { JobTurn (held_state self.old) (enter stretch.line stretch.from stretch.to reading.lower reading.upper) (enter_reply result) (held_state self.new) }
         ensures cells { Changes stretch.line (held_cells self.old) (held_cells self.new) result }
+        ensures loan { SameHeldLoan self.old self.new }
     {
         let line = stretch.line;
         let edit = self.line(line).plan(stretch.from, stretch.to, reading);

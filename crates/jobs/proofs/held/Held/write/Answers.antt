@@ -36,6 +36,7 @@ returns-then-size-gt-ROOM c =
       sound = c.requires.sound;
       turn = turned_down h.cells.now h.lines h.counts h.tally h.sealed c.requires.sound k c.requires.there c.args.stretch.from c.args.stretch.to c.args.reading c.requires.ready es l (omega (arith, n, c.if-size-gt-ROOM.true));
       cells = refl;
+      loan = refl;
     }
 
 pub returns : goal.returns
@@ -50,4 +51,4 @@ returns c =
     let in16 : k < length h.counts = search rules in
     let left = taken_up h.cells.now h.lines h.counts h.tally h.sealed c.requires.sound k c.requires.there c.args.stretch.from c.args.stretch.to c.args.reading c.requires.ready es l
     c.splice.new.cells c.size_after-size.result c.saturating_add-self.result in16 (omega (arith, n, c.if-size-gt-ROOM.false)) c.splice.ensures n c.saturating_add-self.ensures in
-    record { sound = left.0; turn = left.1; cells = left.2 }
+    record { sound = left.0; turn = left.1; cells = left.2; loan = refl }

@@ -13,7 +13,7 @@ returns-in_err-reading c =
     let u = c.args.upper in
     let fails = fails_as (state_of c.args.self.now) c.args.line c.args.from c.args.to (to_z w32 (of_z w32 l)) (to_z w32 (of_z w32 u)) l u (Some (fault_number c.in_err-reading.field-0.0))
     (to_z-of_z c.ranges.lower) (to_z-of_z c.ranges.upper) c.in_err-reading.ensures in
-    rw (p.1, p.2) (record { turn = (fails, refl); cells = refl })
+    rw (p.1, p.2) (record { turn = (fails, refl); cells = refl; loan = refl })
 
 pub write-requires : goal.write-requires
 write-requires c =

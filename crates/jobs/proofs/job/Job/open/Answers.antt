@@ -1,4 +1,4 @@
-use Rattle.std.proofs.Common.{◌≡◌, ◌*◌, ◌≤◌, length, arith, rules}
+use Rattle.std.proofs.Common.{◌≡◌, ◌*◌, ◌≤◌, length, refl, arith, rules}
 use Rattle.runs.specs.States.{line_count}
 use Rattle.jobs.proofs.Blanks.{opened_none, opened_more, one_each, blank_kept, opened_state, opened_behind}
 use Rattle.jobs.proofs.job.Job.open.Goals as goal
@@ -30,4 +30,5 @@ returns c =
     record {
       state = opened_state c.args.cells.now c.loop-k.cells n c.loop-k.k (omega arith) c.loop-k.invariant few room (line_count c.args.lines (length c.args.cells.now)) many;
       behind = opened_behind c.args.cells.now c.loop-k.cells n c.loop-k.k (omega arith) c.loop-k.invariant few room (line_count c.args.lines (length c.args.cells.now)) many;
+      loan = refl;
     }
