@@ -1,23 +1,16 @@
--- What a job holds, as a state.
-use Rattle.std.specs.Prelude.{◌≡◌, ℕ, List}
+-- What a job holds beside its cells, with the cells as a state.
+use Rattle.std.specs.Prelude.{ℕ, List}
 use Rattle.pieces.specs.declared.piece.Piece.{Piece}
 use Rattle.meaning.specs.declared.reading.Reading.{Reading}
 use Rattle.runs.specs.States.{State}
 use Rattle.jobs.specs.declared.held.Held.{Held}
 use Rattle.jobs.specs.Lines.{pieces_at, state_from, Sound}
 
-abbrev pub held_cells : Held → List (Piece Reading)
-held_cells h = h.cells.now
+abbrev pub held_pieces : List (Piece Reading) → Held → ℕ → List (Piece Reading)
+held_pieces cells h k = pieces_at cells h.counts k
 
--- it holds the same lent cells
-abbrev pub SameHeldLoan : Held → Held → Type 0
-SameHeldLoan before after = after.cells.ghost_name ≡ before.cells.ghost_name
+abbrev pub held_state : List (Piece Reading) → Held → State
+held_state cells h = state_from cells h.lines h.counts h.tally h.sealed
 
-abbrev pub held_pieces : Held → ℕ → List (Piece Reading)
-held_pieces h k = pieces_at (held_cells h) h.counts k
-
-abbrev pub held_state : Held → State
-held_state h = state_from (held_cells h) h.lines h.counts h.tally h.sealed
-
-abbrev pub HeldSound : Held → Type 0
-HeldSound h = Sound (held_cells h) h.lines h.counts
+abbrev pub HeldSound : List (Piece Reading) → Held → Type 0
+HeldSound cells h = Sound cells h.lines h.counts

@@ -24,7 +24,7 @@ impl<'a> Job<'a> {
         if line as usize >= self.held.lines {
             return None;
         }
-        Some(self.held.line(line as usize).list().lookup(t))
+        Some(self.held.line(self.cells, line as usize).list().lookup(t))
     }
 
     // Sets a reading from one tick to the tick before another, where it narrows what stands there.
@@ -45,8 +45,9 @@ impl<'a> Job<'a> {
             from,
             to,
         };
-        let reading = self.held.checked(stretch, lower, upper)?;
-        self.held.write(stretch, reading)
+        let reading = self.checked(stretch, lower, upper)?;
+        let cells = &mut *self.cells;
+        self.held.write(cells, stretch, reading)
     }
 
     // The line's first tick with the widest reading, of which nothing is known.
@@ -56,7 +57,7 @@ impl<'a> Job<'a> {
         if line as usize >= self.held.lines {
             return Err(NoSuchLine);
         }
-        Ok(self.held.line(line as usize).first_wide())
+        Ok(self.held.line(self.cells, line as usize).first_wide())
     }
 
     // How many entries were accepted.

@@ -1,15 +1,18 @@
 // Entering readings.
 ghost use Rattle.std.specs.Prelude.{◌<◌};
 ghost use Rattle.runs.specs.Jobs.{JobTurn, enter};
-ghost use Rattle.jobs.specs.Holds.{held_cells, held_state, HeldSound, SameHeldLoan};
+ghost use Rattle.jobs.specs.Holds.{held_state, HeldSound};
 ghost use Rattle.jobs.specs.Faults.{enter_reply};
 ghost use Rattle.jobs.specs.Entries.{Barred, Ready, Checked, Changes};
+ghost use Rattle.jobs.specs.Jobs.{state_of};
 
 use crate::fault::EnterFault;
 use crate::held::{Held, LINE_CELLS};
+use crate::job::Job;
 use crate::splice::{size_after, splice};
 use crate::stretch::Stretch;
 use meaning::reading::Reading;
+use pieces::piece::Piece;
 
 // The last tick at which an entry may end.
 const END: u32 = 1_000_000_001;
@@ -17,7 +20,7 @@ const END: u32 = 1_000_000_001;
 // The most pieces that a line may have.
 const ROOM: usize = LINE_CELLS;
 
-impl<'a> Held<'a> {
+impl Held {
     // What stands against an entry whatever is read: the job, the line or the ticks.
     fn barred(&self, stretch: Stretch) -> Result<(), EnterFault>
         ensures { Barred self.now.sealed self.now.lines stretch.line stretch.from stretch.to result }
@@ -34,6 +37,37 @@ impl<'a> Held<'a> {
         Ok(())
     }
 
+    // Sets the reading on the stretch and counts the entry, unless the line would have too many pieces.
+    pub(crate) fn write(
+        &mut self,
+        cells: &mut [Piece<Reading>],
+        stretch: Stretch,
+        reading: Reading,
+    ) -> Result<(), EnterFault>
+        requires sound { HeldSound cells.old self.old }
+        requires there { stretch.line < self.old.lines }
+        requires ready { Ready (held_state cells.old self.old) stretch.line stretch.from stretch.to reading }
+        ensures sound { HeldSound cells.new self.new }
+        ensures turn { JobTurn (held_state cells.old self.old) (enter stretch.line stretch.from stretch.to reading.lower reading.upper) (enter_reply result) (held_state cells.new self.new) }
+        ensures cells { Changes stretch.line cells.old cells.new result }
+    {
+        let line = stretch.line;
+        let edit = self
+            .line(cells, line)
+            .plan(stretch.from, stretch.to, reading);
+        let count = self.counts[line];
+        let size = size_after(edit, count);
+        if size > ROOM {
+            return Err(EnterFault::TooManyPieces);
+        }
+        splice(cells, LINE_CELLS * line, count, edit);
+        self.counts[line] = size;
+        self.tally = self.tally.saturating_add(1);
+        Ok(())
+    }
+}
+
+impl<'a> Job<'a> {
     // The reading to be entered, or why it cannot be; only whether there is room for it is left open.
     pub(crate) fn checked(
         &self,
@@ -41,40 +75,16 @@ impl<'a> Held<'a> {
         lower: i32,
         upper: i32,
     ) -> Result<Reading, EnterFault>
-        requires { HeldSound self.now }
-        ensures { Checked (held_state self.now) stretch.line stretch.from stretch.to lower upper result }
+        ensures { Checked (state_of self.now) stretch.line stretch.from stretch.to lower upper result }
     {
-        self.barred(stretch)?;
+        self.held.barred(stretch)?;
         let Some(reading) = Reading::new(lower, upper) else {
             return Err(EnterFault::NotReading);
         };
-        let line = self.line(stretch.line);
+        let line = self.held.line(self.cells, stretch.line);
         if !line.narrows(stretch.from, stretch.to, reading) {
             return Err(EnterFault::NotInside);
         }
         Ok(reading)
-    }
-
-    // Sets the reading on the stretch and counts the entry, unless the line would have too many pieces.
-    pub(crate) fn write(&mut self, stretch: Stretch, reading: Reading) -> Result<(), EnterFault>
-        requires sound { HeldSound self.old }
-        requires there { stretch.line < self.old.lines }
-        requires ready { Ready (held_state self.old) stretch.line stretch.from stretch.to reading }
-        ensures sound { HeldSound self.new }
-        ensures turn { JobTurn (held_state self.old) (enter stretch.line stretch.from stretch.to reading.lower reading.upper) (enter_reply result) (held_state self.new) }
-        ensures cells { Changes stretch.line (held_cells self.old) (held_cells self.new) result }
-        ensures loan { SameHeldLoan self.old self.new }
-    {
-        let line = stretch.line;
-        let edit = self.line(line).plan(stretch.from, stretch.to, reading);
-        let count = self.counts[line];
-        let size = size_after(edit, count);
-        if size > ROOM {
-            return Err(EnterFault::TooManyPieces);
-        }
-        splice(self.cells, LINE_CELLS * line, count, edit);
-        self.counts[line] = size;
-        self.tally = self.tally.saturating_add(1);
-        Ok(())
     }
 }

@@ -1,6 +1,4 @@
-// What a job holds, with no promise.
-use meaning::reading::Reading;
-use pieces::piece::Piece;
+// What a job holds beside its cells, with no promise.
 
 // The most lines that a job may have.
 pub(crate) const MOST_LINES: usize = 16;
@@ -11,10 +9,9 @@ pub(crate) const LINE_CELLS: usize = 64;
 // The pieces of line k are the first `counts[k]` of its cells, which begin at cell 64 * k.
 // The counts are a table by line and no vector that fills: a job has its lines from the start.
 // That it is sealed is a flag, since a call that borrows the job seals it in place.
-// Methods here ask for `HeldSound`, which a `Job` keeps: one that changes several fields in turn breaks it in between.
+// Methods here take the cells and ask for `HeldSound`, which a `Job` keeps: one that changes several fields in turn breaks it in between.
 #[derive(Drop)]
-pub(crate) struct Held<'a> {
-    pub(crate) cells: &'a mut [Piece<Reading>],
+pub(crate) struct Held {
     pub(crate) lines: usize,
     pub(crate) counts: [usize; MOST_LINES],
     pub(crate) tally: u32,

@@ -3,13 +3,17 @@ ghost use Rattle.std.specs.Prelude.{◌*◌, ◌≤◌, length};
 ghost use Rattle.jobs.specs.Lines.{Short, AllKept};
 
 use crate::held::Held;
+use meaning::reading::Reading;
+use pieces::piece::Piece;
 
-// Each line has at most 64 pieces, and they are the one list of what it reads.
+// Each line has at most 64 pieces, and they are the one list of what it reads. The loan of the cells is a field of the job itself,
+// so that who lent them can say what they hold once the job has ended.
 #[derive(Drop)]
 pub struct Job<'a> {
-    pub(crate) held: Held<'a>,
+    pub(crate) cells: &'a mut [Piece<Reading>],
+    pub(crate) held: Held,
     ghost few: { held.lines ≤ 16 },
-    ghost room: { 64 * held.lines ≤ length held.cells.now },
+    ghost room: { 64 * held.lines ≤ length cells.now },
     ghost short: { Short held.lines held.counts },
-    ghost kept: { ∥ AllKept held.cells.now held.lines held.counts ∥₁ },
+    ghost kept: { ∥ AllKept cells.now held.lines held.counts ∥₁ },
 }

@@ -10,18 +10,19 @@ use crate::held::{Held, LINE_CELLS};
 use crate::line::Line;
 use meaning::reading::Reading;
 use pieces::list::PieceList;
+use pieces::piece::Piece;
 
-impl<'a> Held<'a> {
+impl Held {
     // The pieces of a line, without the cells behind them.
-    pub(crate) fn line(&self, line: usize) -> Line<'_>
-        requires sound { HeldSound self.now }
+    pub(crate) fn line<'c>(&self, cells: &'c [Piece<Reading>], line: usize) -> Line<'c>
+        requires sound { HeldSound cells.now self.now }
         requires there { line < self.now.lines }
-        ensures are { result.pieces.now ≡ held_pieces self.now line }
+        ensures are { result.pieces.now ≡ held_pieces cells.now self.now line }
         ensures kept { Kept result.pieces.now }
     {
         let base = LINE_CELLS * line;
         Line {
-            pieces: &self.cells[base..base + self.counts[line]],
+            pieces: &cells[base..base + self.counts[line]],
         }
     }
 }

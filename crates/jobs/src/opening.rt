@@ -13,7 +13,7 @@ impl<'a> Job<'a> {
     pub fn open(lines: usize, cells: &'a mut [Piece<Reading>]) -> Job<'a>
         ensures state { state_of result ≡ opened (line_count lines (length cells.old)) }
         ensures behind { drop (64 * line_count lines (length cells.old)) (cells_of result) ≡ drop (64 * line_count lines (length cells.old)) cells.old }
-        ensures loan { result.held.cells.ghost_name ≡ cells.entry.ghost_name }
+        ensures loan { result.cells.ghost_name ≡ cells.entry.ghost_name }
     {
         let count = lines.min(MOST_LINES).min(cells.len() / LINE_CELLS);
         // Only the first of a line's cells is written, and the line's number gives its place.
@@ -24,8 +24,8 @@ impl<'a> Job<'a> {
             };
         }
         Job {
+            cells,
             held: Held {
-                cells,
                 lines: count,
                 counts: [1; MOST_LINES],
                 tally: 0,

@@ -10,8 +10,8 @@ invariant_of-result c =
     let k = c.args.line in
     let n = get_or h.counts k 0 in
     let e : 64 * k + n - 64 * k ≡ n = omega arith in
-    let are : part h.cells.now (64 * k) (64 * k + n - 64 * k) ≡ part h.cells.now (64 * k) n = ap (part h.cells.now (64 * k)) e in
-    record { canonical = subst Canonical (sym are) (kept_at h.cells.now h.lines h.counts c.requires.sound k c.requires.there).0 }
+    let are : part c.args.cells.now (64 * k) (64 * k + n - 64 * k) ≡ part c.args.cells.now (64 * k) n = ap (part c.args.cells.now (64 * k)) e in
+    record { canonical = subst Canonical (sym are) (kept_at c.args.cells.now h.lines h.counts c.requires.sound k c.requires.there).0 }
 
 pub returns : goal.returns
 returns c =
@@ -19,5 +19,5 @@ returns c =
     let k = c.args.line in
     let n = get_or h.counts k 0 in
     let e : 64 * k + n - 64 * k ≡ n = omega arith in
-    let are : part h.cells.now (64 * k) (64 * k + n - 64 * k) ≡ part h.cells.now (64 * k) n = ap (part h.cells.now (64 * k)) e in
-    record { are = are; kept = subst Kept (sym are) (kept_at h.cells.now h.lines h.counts c.requires.sound k c.requires.there) }
+    let are : part c.args.cells.now (64 * k) (64 * k + n - 64 * k) ≡ part c.args.cells.now (64 * k) n = ap (part c.args.cells.now (64 * k)) e in
+    record { are = are; kept = subst Kept (sym are) (kept_at c.args.cells.now h.lines h.counts c.requires.sound k c.requires.there) }

@@ -8,7 +8,7 @@ pub size_after-size-requires : goal.size_after-size-requires
 size_after-size-requires c =
     let h = c.args.self.now in
     record {
-      order = edit_order h.cells.now h.lines h.counts c.requires.sound c.args.stretch.line c.requires.there c.line.result.pieces.now c.line.ensures.are c.plan-edit.result c.plan-edit.ensures.order;
+      order = edit_order c.args.cells.now h.lines h.counts c.requires.sound c.args.stretch.line c.requires.there c.line.result.pieces.now c.line.ensures.are c.plan-edit.result c.plan-edit.ensures.order;
       short = c.requires.sound.short c.args.stretch.line c.requires.there;
     }
 
@@ -16,9 +16,9 @@ pub splice-requires : goal.splice-requires
 splice-requires c =
     let h = c.args.self.now in
     let few : get_or h.counts c.args.stretch.line 0 ≤ 64 = c.requires.sound.short c.args.stretch.line c.requires.there in
-    let room : 64 * h.lines ≤ length h.cells.now = c.requires.sound.room in
+    let room : 64 * h.lines ≤ length c.args.cells.now = c.requires.sound.room in
     record {
-      order = edit_order h.cells.now h.lines h.counts c.requires.sound c.args.stretch.line c.requires.there c.line.result.pieces.now c.line.ensures.are c.plan-edit.result c.plan-edit.ensures.order;
+      order = edit_order c.args.cells.now h.lines h.counts c.requires.sound c.args.stretch.line c.requires.there c.line.result.pieces.now c.line.ensures.are c.plan-edit.result c.plan-edit.ensures.order;
       before = omega (arith, few, room, c.requires.there);
       after = omega (arith, few, room, c.requires.there, c.if-size-gt-ROOM.false, c.size_after-size.ensures);
     }
@@ -29,14 +29,13 @@ returns-then-size-gt-ROOM c =
     let k = c.args.stretch.line in
     let e = c.plan-edit.result in
     let qs = c.line.result.pieces.now in
-    let es = edited (held_pieces h k) e in
-    let l = edit_lists h.cells.now h.lines h.counts c.requires.sound k c.requires.there qs c.line.ensures.are e c.plan-edit.ensures.order c.args.stretch.from c.args.stretch.to c.args.reading c.plan-edit.ensures.lists in
-    let n = edit_size h.cells.now h.lines h.counts c.requires.sound k c.requires.there qs c.line.ensures.are e c.plan-edit.ensures.order c.size_after-size.result c.size_after-size.ensures in
+    let es = edited (held_pieces c.args.cells.now h k) e in
+    let l = edit_lists c.args.cells.now h.lines h.counts c.requires.sound k c.requires.there qs c.line.ensures.are e c.plan-edit.ensures.order c.args.stretch.from c.args.stretch.to c.args.reading c.plan-edit.ensures.lists in
+    let n = edit_size c.args.cells.now h.lines h.counts c.requires.sound k c.requires.there qs c.line.ensures.are e c.plan-edit.ensures.order c.size_after-size.result c.size_after-size.ensures in
     record {
       sound = c.requires.sound;
-      turn = turned_down h.cells.now h.lines h.counts h.tally h.sealed c.requires.sound k c.requires.there c.args.stretch.from c.args.stretch.to c.args.reading c.requires.ready es l (omega (arith, n, c.if-size-gt-ROOM.true));
+      turn = turned_down c.args.cells.now h.lines h.counts h.tally h.sealed c.requires.sound k c.requires.there c.args.stretch.from c.args.stretch.to c.args.reading c.requires.ready es l (omega (arith, n, c.if-size-gt-ROOM.true));
       cells = refl;
-      loan = refl;
     }
 
 pub returns : goal.returns
@@ -45,10 +44,10 @@ returns c =
     let k = c.args.stretch.line in
     let e = c.plan-edit.result in
     let qs = c.line.result.pieces.now in
-    let es = edited (held_pieces h k) e in
-    let l = edit_lists h.cells.now h.lines h.counts c.requires.sound k c.requires.there qs c.line.ensures.are e c.plan-edit.ensures.order c.args.stretch.from c.args.stretch.to c.args.reading c.plan-edit.ensures.lists in
-    let n = edit_size h.cells.now h.lines h.counts c.requires.sound k c.requires.there qs c.line.ensures.are e c.plan-edit.ensures.order c.size_after-size.result c.size_after-size.ensures in
+    let es = edited (held_pieces c.args.cells.now h k) e in
+    let l = edit_lists c.args.cells.now h.lines h.counts c.requires.sound k c.requires.there qs c.line.ensures.are e c.plan-edit.ensures.order c.args.stretch.from c.args.stretch.to c.args.reading c.plan-edit.ensures.lists in
+    let n = edit_size c.args.cells.now h.lines h.counts c.requires.sound k c.requires.there qs c.line.ensures.are e c.plan-edit.ensures.order c.size_after-size.result c.size_after-size.ensures in
     let in16 : k < length h.counts = search rules in
-    let left = taken_up h.cells.now h.lines h.counts h.tally h.sealed c.requires.sound k c.requires.there c.args.stretch.from c.args.stretch.to c.args.reading c.requires.ready es l
+    let left = taken_up c.args.cells.now h.lines h.counts h.tally h.sealed c.requires.sound k c.requires.there c.args.stretch.from c.args.stretch.to c.args.reading c.requires.ready es l
     c.splice.new.cells c.size_after-size.result c.saturating_add-self.result in16 (omega (arith, n, c.if-size-gt-ROOM.false)) c.splice.ensures n c.saturating_add-self.ensures in
-    record { sound = left.0; turn = left.1; cells = left.2; loan = refl }
+    record { sound = left.0; turn = left.1; cells = left.2 }

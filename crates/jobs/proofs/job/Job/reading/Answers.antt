@@ -6,16 +6,18 @@ use Rattle.jobs.proofs.Looks.{told}
 use Rattle.jobs.proofs.job.Job.reading.Goals as goal
 
 pub returns-then-line-self : goal.returns-then-line-self
-returns-then-line-self c = let h = c.args.self.now.held in omega (arith, length_lines h.cells.now h.lines h.counts)
+returns-then-line-self c = let cells = c.args.self.now.cells.now in
+    let h = c.args.self.now.held in omega (arith, length_lines cells h.lines h.counts)
 
 pub returns : goal.returns
 returns c =
+    let cells = c.args.self.now.cells.now in
     let h = c.args.self.now.held in
     let k = c.args.line in
     let ps = c.line.result.pieces.now in
     let v = c.lookup.result.0 in
     let o = c.lookup.result.1 in
-    let e = line_at h.cells.now h.lines h.counts k c.if-line-self.false ∙ sym c.line.ensures.are in
+    let e = line_at cells h.lines h.counts k c.if-line-self.false ∙ sym c.line.ensures.are in
     let found = subst (λ qs. Found qs c.args.t v o) c.list.ensures c.lookup.ensures in
     let r = told ps (get_or (state_of c.args.self.now).lines k []) c.args.t v o e c.line.ensures.kept.0 found in
-    (omega (arith, length_lines h.cells.now h.lines h.counts), r.0, r.1)
+    (omega (arith, length_lines cells h.lines h.counts), r.0, r.1)
