@@ -5,3 +5,4 @@ pub mod Ticked
 pub mod Carried
 pub mod Whole
 pub mod OneListing
+pub mod Left

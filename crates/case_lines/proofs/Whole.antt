@@ -16,21 +16,22 @@ closed P Q before after (Ok u) f h = (h.0, f h.0 h.1, h.2)
 closed P Q before after (Err (Refused e)) f h = (h.0, f (h.0 ++ refusal_line e) h.1, h.2)
 closed P Q before after (Err NoMemory) f h = tt
 
+-- a heading read from the start of the case
+pub whole : (case : List ℕ) (n : ℕ) (bytes : List ℕ) → n ≡ 0 → bytes ≡ case → (x : Result Opened CaseRefusal) → Opens (n + 1) [] bytes x → Opens 1 [] case x
+whole case n bytes first all x o = subst (λ (v : List ℕ). Opens 1 [] v x) all (subst (λ (i : ℕ). Opens (i + 1) [] bytes x) first o)
+
 module _ (lent : Lent) (case before : List ℕ) where
   pub long : (e : CaseRefusal) → Sized case (Err e) → AddsClosed before (Err (Refused e)) (Listing lent case) before
   long e s = ([], too_long e s refl, sym (append-nil before))
 
   module _ (sized : Sized case (Ok tt)) (n : ℕ) (bytes : List ℕ) (first : n ≡ 0) (all : bytes ≡ case) where
-    whole : (x : Result Opened CaseRefusal) → Opens (n + 1) [] bytes x → Opens 1 [] case x
-    whole x o = subst (λ (v : List ℕ). Opens 1 [] v x) all (subst (λ (i : ℕ). Opens (i + 1) [] bytes x) first o)
-
     pub unopened : (e : CaseRefusal) → Opens (n + 1) [] bytes (Err e) → AddsClosed before (Err (Refused e)) (Listing lent case) before
-    unopened e o = ([], no_heading e sized (whole (Err e) o) refl, sym (append-nil before))
+    unopened e o = ([], no_heading e sized (whole case n bytes first all (Err e) o) refl, sym (append-nil before))
 
     pub carried : (r : Result (Unit {0}) ListFault) (after : List ℕ) (o : Opened) (s : State) → Opens (n + 1) [] bytes (Ok o) → s ≡ opened (line_count o.lines lent.pieces) → AddsClosed before r (Lists lent.cells o.rows o.next s o.rest) after → AddsClosed before r (Listing lent case) after
     carried r after o s opens is h =
         closed (Lists lent.cells o.rows o.next s o.rest) (Listing lent case) before after r
-        (λ v l. listed o sized (whole (Ok o) opens) (subst (λ (z : State). Lists lent.cells o.rows o.next z o.rest v) is l)) h
+        (λ v l. listed o sized (whole case n bytes first all (Ok o) opens) (subst (λ (z : State). Lists lent.cells o.rows o.next z o.rest v) is l)) h
 
 -- behind no text, the text is the listing, with the refusal's line if there is one
 module _ (lent : Lent) (case before after : List ℕ) (none : before ≡ []) where

@@ -2,4 +2,5 @@ pub mod Lines
 pub mod Writes
 pub mod Calls
 pub mod Listings
+pub mod Leaves
 pub mod Laws

@@ -2,9 +2,10 @@
 ghost use Rattle.std.specs.Prelude.{string_bytes};
 ghost use Rattle.runs.specs.Jobs.{JobTurn, enter};
 ghost use Rattle.jobs.specs.Faults.{enter_reply};
-ghost use Rattle.jobs.specs.Jobs.{state_of};
+ghost use Rattle.jobs.specs.Jobs.{state_of, SameLoan};
 ghost use Rattle.case_lines.specs.Writes.{AddsSome};
 ghost use Rattle.case_lines.specs.Calls.{Enters};
+ghost use Rattle.case_lines.specs.Leaves.{CarriedOn};
 
 use crate::writing::write_refused;
 use cases::field::Entry;
@@ -18,7 +19,9 @@ pub(crate) fn write_entry<'a>(
     field: usize,
     entry: Entry,
 ) -> Result<(), AllocError>
-    ensures { AddsSome (string_bytes text.old) result (Enters field entry (state_of job.old) (state_of job.new)) (string_bytes text.new) }
+    ensures prints { AddsSome (string_bytes text.old) result (Enters field entry (state_of job.old) (state_of job.new)) (string_bytes text.new) }
+    ensures pieces { CarriedOn job.old job.new }
+    ensures loan { SameLoan job.old job.new }
 {
     let reply = job.enter(entry.line, entry.from, entry.to, entry.lower, entry.upper);
     match reply {

@@ -1,11 +1,12 @@
 // The listing of a whole case.
-ghost use Rattle.std.specs.Prelude.{◌≡◌, length, IfOk, string_bytes};
+ghost use Rattle.std.specs.Prelude.{◌≡◌, length, IfOk, OnOk, string_bytes};
 ghost use Rattle.rules.specs.Texts.{table_of};
-ghost use Rattle.jobs.specs.Jobs.{state_of};
+ghost use Rattle.jobs.specs.Jobs.{state_of, SameLoan};
 ghost use Rattle.cases.specs.Readers.{left_of, next_of};
 ghost use Rattle.cases.specs.Steps.{call_item};
 ghost use Rattle.case_lines.specs.Writes.{AddsSome, AddsClosed};
 ghost use Rattle.case_lines.specs.Listings.{Does, Lists, Listing, counts, lent_cells};
+ghost use Rattle.case_lines.specs.Leaves.{FieldLeaves, FieldsLeave, CaseLeaves, CarriedOn, InMemory, contents, SameLoans};
 
 use crate::calling::write_entry;
 use crate::cells::Cells;
@@ -22,6 +23,7 @@ use rules::rule::Rule;
 use std::alloc::{AllocError, Global};
 
 // Carries out one field, and writes what it prints. Text, job, rule and cells stay parameters: a struct of these loans would have seven lifetimes.
+// The job and the cells stay the same loans, so that who lent them learns what they hold in the end.
 fn write_step<'a>(
     text: &mut String,
     job: &mut Job<'a>,
@@ -31,6 +33,10 @@ fn write_step<'a>(
 ) -> Result<(), AllocError>
     ensures does { AddsSome (string_bytes text.old) result (Does (counts cells.old) (table_of rule.now) step.field (call_item step.call) (state_of job.old) (state_of job.new)) (string_bytes text.new) }
     ensures kept { counts cells.new ≡ counts cells.old }
+    ensures leaves { OnOk result (FieldLeaves (table_of rule.now) (call_item step.call) (state_of job.old) (state_of job.new) (contents cells.old) (contents cells.new)) }
+    ensures pieces { CarriedOn job.old job.new }
+    ensures loan { SameLoan job.old job.new }
+    ensures loans { SameLoans cells.old cells.new }
 {
     match step.call {
         Call::Enter(entry) => write_entry(text, job, step.field, entry),
@@ -46,7 +52,12 @@ fn write_steps<'a, 'b>(
     rule: &Rule,
     cells: &mut Cells<'_>,
 ) -> Result<(), ListFault>
-    ensures { AddsClosed (string_bytes text.old) result (Lists (counts cells.old) (table_of rule.now) (next_of reader.old) (state_of job.old) (left_of reader.old)) (string_bytes text.new) }
+    ensures prints { AddsClosed (string_bytes text.old) result (Lists (counts cells.old) (table_of rule.now) (next_of reader.old) (state_of job.old) (left_of reader.old)) (string_bytes text.new) }
+    ensures leaves { InMemory result (FieldsLeave (table_of rule.now) (next_of reader.old) (state_of job.old) (left_of reader.old) (state_of job.new) (contents cells.old) (contents cells.new)) }
+    ensures pieces { CarriedOn job.old job.new }
+    ensures loan { SameLoan job.old job.new }
+    ensures kept { counts cells.new ≡ counts cells.old }
+    ensures loans { SameLoans cells.old cells.new }
 {
     while let Some(step) = reader.step()? {
         write_step(text, job, rule, step, cells)?;
@@ -61,7 +72,10 @@ fn write_case(
     pieces: &mut [Piece<Reading>],
     cells: &mut Cells<'_>,
 ) -> Result<(), ListFault>
-    ensures { AddsClosed (string_bytes text.old) result (Listing (record { pieces = length pieces.old; cells = counts cells.old }) case.now) (string_bytes text.new) }
+    ensures prints { AddsClosed (string_bytes text.old) result (Listing (record { pieces = length pieces.old; cells = counts cells.old }) case.now) (string_bytes text.new) }
+    ensures leaves { InMemory result (CaseLeaves case.now pieces.old pieces.new (contents cells.old) (contents cells.new)) }
+    ensures kept { counts cells.new ≡ counts cells.old }
+    ensures loans { SameLoans cells.old cells.new }
 {
     check_size(case)?;
     let mut reader = CaseReader::new(case);
@@ -71,17 +85,20 @@ fn write_case(
 }
 
 // The listing of a case, on a job that keeps its lines in the lent pieces; the other cells are lent to the judge.
+// Behind a listing, `CaseLeaves` says what all five sorts of cells hold. Where memory ran out, only their numbers are known.
 pub fn list_case<'a>(
     case: &[u8],
     pieces: &mut [Piece<Reading>],
-    cells: Cells<'a>,
+    cells: &mut Cells<'a>,
     heap: Global,
 ) -> Result<String, AllocError>
-    ensures { IfOk result (λ text. Listing (lent_cells (length pieces.old) (length cells.entry.truths.now) (length cells.entry.margins.now) (length cells.entry.wants.now) (length cells.entry.marks.now)) case.now (string_bytes text)) }
+    ensures prints { IfOk result (λ text. Listing (lent_cells (length pieces.old) (length cells.old.truths.now) (length cells.old.margins.now) (length cells.old.wants.now) (length cells.old.marks.now)) case.now (string_bytes text)) }
+    ensures leaves { OnOk result (CaseLeaves case.now pieces.old pieces.new (contents cells.old) (contents cells.new)) }
+    ensures kept { counts cells.new ≡ counts cells.old }
+    ensures loans { SameLoans cells.old cells.new }
 {
     let mut text = String::new(heap);
-    let mut cells = cells;
-    match write_case(&mut text, case, pieces, &mut cells) {
+    match write_case(&mut text, case, pieces, cells) {
         Ok(()) => Ok(text),
         Err(ListFault::Refused(refusal)) => {
             write_refusal(&mut text, refusal)?;

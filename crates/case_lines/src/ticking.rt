@@ -1,5 +1,5 @@
 // Judging and marking at a tick.
-ghost use Rattle.std.specs.Prelude.{◌≡◌, ℕ, ◌++◌, ◌≤◌, length, IfOk, string_bytes};
+ghost use Rattle.std.specs.Prelude.{◌≡◌, ℕ, ◌++◌, ◌≤◌, length, take, IfOk, string_bytes};
 ghost use Rattle.rules.specs.Texts.{table_of};
 ghost use Rattle.jobs.specs.Jobs.{state_of};
 ghost use Rattle.grades.specs.Truths.{truths as truth_kind};
@@ -9,6 +9,7 @@ ghost use Rattle.case_lines.specs.Lines.{verdict_line, mark_lines};
 ghost use Rattle.case_lines.specs.Writes.{Adds, AddsSome};
 ghost use Rattle.case_lines.specs.Calls.{told_text};
 ghost use Rattle.case_lines.specs.Listings.{Ticks, counts};
+ghost use Rattle.case_lines.specs.Leaves.{TickLeaves, contents, SameLoans};
 
 use crate::cells::Cells;
 use crate::lines::OutcomeText;
@@ -20,7 +21,6 @@ use jobs::job::Job;
 use judge::fault::MarkFault;
 use judge::judging::judge;
 use judge::marking::mark;
-use meaning::mark::Mark;
 use rules::rule::Rule;
 use std::alloc::AllocError;
 
@@ -39,6 +39,8 @@ impl Cells<'_> {
         ensures told { (k : ℕ) → Ticks (counts self.old) (table_of rule.now) k tick (state_of job.now) (told_text k tick self.new.marks.now result) }
         ensures fits { IfOk result (λ x. x.marks ≤ length self.new.marks.now) }
         ensures kept { counts self.new ≡ counts self.old }
+        ensures leaves { TickLeaves (table_of rule.now) (state_of job.now) tick (contents self.old) (contents self.new) }
+        ensures loans { SameLoans self.old self.new }
     {
         let verdict = judge(job, rule, tick, self.truths)?;
         let margin = judge(job, rule, tick, self.margins)?;
@@ -51,16 +53,17 @@ impl Cells<'_> {
     }
 }
 
-// The verdict's line, and a line for each mark.
-fn write_told(text: &mut String, tick: u32, told: Told, marks: &[Mark]) -> Result<(), AllocError>
-    ensures { Adds (string_bytes text.old) result (verdict_line tick (outcome_of_lem (worth truth_kind (λ t. t.holds) told.verdict)) told.margin.lower.number told.margin.upper.number (length marks.now) ++ mark_lines marks.now) (string_bytes text.new) }
+// The verdict's line, and a line for each of the marks, which lie in the mark cells.
+fn write_told(text: &mut String, tick: u32, told: Told, cells: &Cells<'_>) -> Result<(), AllocError>
+    requires { told.marks ≤ length cells.now.marks.now }
+    ensures { Adds (string_bytes text.old) result (verdict_line tick (outcome_of_lem (worth truth_kind (λ t. t.holds) told.verdict)) told.margin.lower.number told.margin.upper.number told.marks ++ mark_lines (take told.marks cells.now.marks.now)) (string_bytes text.new) }
 {
     let outcome = OutcomeText(outcome_of(told.verdict));
     let lower = told.margin.lower.number();
     let upper = told.margin.upper.number();
-    let count = marks.len();
+    let count = told.marks;
     writeln!(text, "{tick} {outcome} {lower} {upper} {count}")?;
-    write_marks(text, marks)
+    write_marks(text, &cells.marks[..count])
 }
 
 // Writes the verdict at the tick with its margin and its marks, or the first refusal on the way to them.
@@ -74,9 +77,11 @@ pub(crate) fn write_tick<'a>(
 ) -> Result<(), AllocError>
     ensures prints { AddsSome (string_bytes text.old) result (Ticks (counts cells.old) (table_of rule.now) field tick (state_of job.now)) (string_bytes text.new) }
     ensures kept { counts cells.new ≡ counts cells.old }
+    ensures leaves { TickLeaves (table_of rule.now) (state_of job.now) tick (contents cells.old) (contents cells.new) }
+    ensures loans { SameLoans cells.old cells.new }
 {
     match cells.tell(job, rule, tick) {
-        Ok(told) => write_told(text, tick, told, &cells.marks[..told.marks]),
+        Ok(told) => write_told(text, tick, told, cells),
         Err(fault) => write_refused(text, fault.number(), field),
     }
 }

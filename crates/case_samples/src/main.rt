@@ -30,13 +30,13 @@ fn list(case: &[u8], heap: Global) -> Result<String, AllocError>
     let mut margins = [blank_row(); ROWS];
     let mut wants = [BLANK_WANT; WANTS];
     let mut marks = [BLANK_MARK; MARKS];
-    let cells = Cells {
+    let mut cells = Cells {
         truths: &mut truths,
         margins: &mut margins,
         wants: &mut wants,
         marks: &mut marks,
     };
-    list_case(case, &mut pieces, cells, heap)
+    list_case(case, &mut pieces, &mut cells, heap)
 }
 
 // What is printed of a text that is not packed.

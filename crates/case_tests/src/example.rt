@@ -40,13 +40,13 @@ pub(crate) fn listing(heap: Global, lent: Lent, case: &[u8]) -> Result<String, A
     let rows = lent.rows.min(MOST);
     let want_cells = lent.wants.min(MOST);
     let mark_cells = lent.marks.min(MOST);
-    let cells = Cells {
+    let mut cells = Cells {
         truths: &mut truths[..rows],
         margins: &mut margins[..rows],
         wants: &mut wants[..want_cells],
         marks: &mut marks[..mark_cells],
     };
-    list_case(case, &mut pieces, cells, heap)
+    list_case(case, &mut pieces, &mut cells, heap)
 }
 
 // Prints whether the case lists what it should, and what it lists if not.

@@ -5,20 +5,31 @@ use Rattle.case_lines.specs.Lines.{refused_line}
 use Rattle.case_lines.specs.Calls.{Enters}
 use Rattle.case_lines.proofs.Adding.{some}
 use Rattle.case_lines.proofs.Entered.{entered}
+use Rattle.case_lines.proofs.Left.{entry_carries}
 use Rattle.case_lines.proofs.calling.write_entry.Goals as goal
 
-pub returns-in-Ok : goal.returns-in-Ok
-returns-in-Ok c =
+pub returns-in-Ok-clause-prints : goal.returns-in-Ok-clause-prints
+returns-in-Ok-clause-prints c =
     let e = c.args.entry in
     let low : SFits w32 e.lower = search rules in
     let high : SFits w32 e.upper = search rules in
     ([], entered c.args.field e (state_of c.args.job.now) (state_of c.enter-reply.new.self) (to_z w32 (of_z w32 e.lower)) (to_z w32 (of_z w32 e.upper)) (enter_reply (Ok c.in-Ok.field-0)) [] (to_z-of_z low) (to_z-of_z high) c.in-Ok.ensures.turn refl, sym (append-nil (string_bytes c.args.text.now)))
 
-pub returns-in-Err : goal.returns-in-Err
-returns-in-Err c =
+pub returns-in-Err-clause-prints : goal.returns-in-Err-clause-prints
+returns-in-Err-clause-prints c =
     let e = c.args.entry in
     let low : SFits w32 e.lower = search rules in
     let high : SFits w32 e.upper = search rules in
     some (Enters c.args.field e (state_of c.args.job.now) (state_of c.enter-reply.new.self)) (string_bytes c.args.text.now) (string_bytes c.write_refused.new.text) c.write_refused.result (refused_line c.number.result c.args.field)
     (entered c.args.field e (state_of c.args.job.now) (state_of c.enter-reply.new.self) (to_z w32 (of_z w32 e.lower)) (to_z w32 (of_z w32 e.upper)) (enter_reply (Err c.in-Err.fault)) _ (to_z-of_z low) (to_z-of_z high) c.in-Err.ensures.turn (ap (λ (n : ℕ). refused_line n c.args.field) c.number.ensures))
     c.write_refused.ensures
+
+pub returns-in-Ok-clause-pieces : goal.returns-in-Ok-clause-pieces
+returns-in-Ok-clause-pieces c =
+    let e = c.args.entry in
+    entry_carries e.line e.from e.to (to_z w32 (of_z w32 e.lower)) (to_z w32 (of_z w32 e.upper)) c.args.job.now c.enter-reply.new.self (Ok c.in-Ok.field-0) c.in-Ok.ensures.turn c.in-Ok.ensures.cells
+
+pub returns-in-Err-clause-pieces : goal.returns-in-Err-clause-pieces
+returns-in-Err-clause-pieces c =
+    let e = c.args.entry in
+    entry_carries e.line e.from e.to (to_z w32 (of_z w32 e.lower)) (to_z w32 (of_z w32 e.upper)) c.args.job.now c.enter-reply.new.self (Err c.in-Err.fault) c.in-Err.ensures.turn c.in-Err.ensures.cells

@@ -9,6 +9,7 @@ use Rattle.judge.specs.Faults.{mark_number}
 use Rattle.jobs.specs.Jobs.{state_of}
 use Rattle.case_lines.specs.Lines.{verdict_line}
 use Rattle.case_lines.specs.Listings.{no_truth, no_margin, no_marks, verdict}
+use Rattle.case_lines.specs.Leaves.{no_truth as left_no_truth, no_margin as left_no_margin, marked as left_marked}
 use Rattle.case_lines.proofs.Ticked.{recounted, counted}
 use Rattle.case_lines.proofs.cells.Cells.tell.Goals as goal
 
@@ -35,3 +36,21 @@ returns-clause-told c =
     let written = c.in_ok-marking.ensures.cells.1.1.1 in
     let line = λ (n : ℕ). verdict_line c.args.tick (outcome_of_lem (worth truths (λ v. v.holds) c.in_ok-verdict.verdict)) c.in_ok-margin.margin.lower.number c.in_ok-margin.margin.upper.number n in
     λ k. verdict _ _ marked c.in_ok-verdict.ensures.turn c.in_ok-margin.ensures.turn turn (sym (counted line c.in_ok-marking.marking.marks c.mark.new.marks (omega (arith, written.1, written.2.fits, c.mark.auto.marks))))
+
+pub returns-in_err-verdict-clause-leaves : goal.returns-in_err-verdict-clause-leaves
+returns-in_err-verdict-clause-leaves c = left_no_truth c.in_err-verdict.field-0.0 (record { turn = c.in_err-verdict.ensures.turn; cells = c.in_err-verdict.ensures.cells }) refl
+
+pub returns-in_err-margin-clause-leaves : goal.returns-in_err-margin-clause-leaves
+returns-in_err-margin-clause-leaves c =
+    left_no_margin c.in_ok-verdict.verdict c.in_err-margin.field-0.0 (record { turn = c.in_ok-verdict.ensures.turn; cells = c.in_ok-verdict.ensures.cells })
+    (record { turn = c.in_err-margin.ensures.turn; cells = c.in_err-margin.ensures.cells }) refl
+
+pub returns-in_err-marking-clause-leaves : goal.returns-in_err-marking-clause-leaves
+returns-in_err-marking-clause-leaves c =
+    left_marked c.in_ok-verdict.verdict c.in_ok-margin.margin c.judge.new.cells (Err c.in_err-marking.field-0.0) (record { turn = c.in_ok-verdict.ensures.turn; cells = c.in_ok-verdict.ensures.cells })
+    (record { turn = c.in_ok-margin.ensures.turn; cells = c.in_ok-margin.ensures.cells }) (record { turn = c.in_err-marking.ensures.turn; cells = c.in_err-marking.ensures.cells })
+
+pub returns-clause-leaves : goal.returns-clause-leaves
+returns-clause-leaves c =
+    left_marked c.in_ok-verdict.verdict c.in_ok-margin.margin c.judge.new.cells (Ok c.in_ok-marking.marking) (record { turn = c.in_ok-verdict.ensures.turn; cells = c.in_ok-verdict.ensures.cells })
+    (record { turn = c.in_ok-margin.ensures.turn; cells = c.in_ok-margin.ensures.cells }) (record { turn = c.in_ok-marking.ensures.turn; cells = c.in_ok-marking.ensures.cells })
