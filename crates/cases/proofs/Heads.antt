@@ -1,5 +1,5 @@
 -- What the fields up to the rule answer, one by one.
-use Rattle.std.proofs.Common.{◌≡◌, ℕ, ◌+◌, ◌<◌, List, [], ◌∷◌, ◌++◌, length, Some, None, Ok, Err, Option, Result, sym, refl, ap, ◌∙◌, subst, arith, Bor}
+use Rattle.std.proofs.Common.{◌≡◌, ℕ, ◌+◌, ◌<◌, List, [], ◌∷◌, ◌++◌, length, Some, None, Ok, Err, Option, Result, sym, refl, ap, ◌∙◌, subst, Bor}
 use Rattle.std.specs.Option.{ok_or}
 use Rattle.std.proofs.lemmas.List.{map_push, length-map}
 use Rattle.tokens.specs.Answers.{texts}
@@ -12,10 +12,11 @@ use Rattle.cases.specs.declared.fault.CaseFault.TheVariants.{BadField, Misplaced
 use Rattle.cases.specs.declared.field.Field.{Field}
 use Rattle.cases.specs.declared.reader.CaseReader.{CaseReader}
 use Rattle.cases.specs.Fields.{Leads}
-use Rattle.cases.specs.Contents.{Item, name, rule, entry, tick, Says, a_name, a_rule, an_entry, a_tick, Wrong}
+use Rattle.cases.specs.Contents.{Item, name, rule, entry, tick, Says, Wrong}
 use Rattle.cases.specs.Orders.{Stands}
-use Rattle.cases.specs.Readers.{Next}
+use Rattle.cases.specs.Readers.{left_of, next_of, Next}
 use Rattle.cases.specs.Headings.{refusal, Opened, Opens, missing, wrong, misplaced, named, no_rule, ruled, Head, Refuses, Wanted}
+use Rattle.cases.proofs.OneReading.{nothing_leads}
 
 -- a name's field holds the name
 word : Item → List ℕ
@@ -35,8 +36,13 @@ module _ (names : List (List ℕ)) (tag : ℕ) (body : List ℕ) (n : ℕ) where
   rule_refused f text s some t bytes rest l = no_rule f l s some t refl
 
 -- where the next field has to follow
-pub waits : (before after : CaseReader) (o : Option Field) (e : CaseRefusal) → Next before (Ok o) after → e ≡ refusal (after.number + 1) Misplaced → Wanted before (ok_or o e) after
-waits before after None e h is = λ names. missing h.0 (ap Err is ∙ ap (λ (n : ℕ). Err (refusal (n + 1) Misplaced)) h.2)
+pub waits : (before after : CaseReader) (o : Option Field) (e : CaseRefusal) → Next before (Ok o) after → e ≡ refusal (next_of after) Misplaced → Wanted before (ok_or o e) after
+waits before after None e h is = record {
+  answer = λ names. missing h.0 (ap Err is ∙ ap (λ (r : CaseReader). Err (refusal (next_of r) Misplaced)) h.1);
+  none = λ tag body rest. nothing_leads (left_of before) h.0;
+  number = ap (λ (r : CaseRefusal). r.field) is ∙ ap next_of h.1;
+  kept = h.1;
+}
 waits before after (Some f) e h is = h
 
 -- the names so far are those of the cells

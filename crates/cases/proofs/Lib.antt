@@ -5,3 +5,4 @@ pub mod Refused
 pub mod CallSteps
 pub mod OneReading
 pub mod Packing
+pub mod Standing

@@ -1,5 +1,5 @@
 -- Bytes are read in one way only.
-use Rattle.std.proofs.Common.{◌≡◌, ℕ, ◌+◌, ◌*◌, List, [], ◌∷◌, ◌++◌, length, get_or, take, drop, Some, Ok, Err, sym, ap, ◌∙◌, subst, arith}
+use Rattle.std.proofs.Common.{◌≡◌, ℕ, ◌+◌, ◌*◌, ◌≤◌, List, [], ◌∷◌, ◌++◌, length, get_or, take, drop, Some, Ok, Err, sym, ap, ◌∙◌, subst, arith}
 use Rattle.std.proofs.lemmas.List.{take_at, drop_at}
 use Rattle.rules.specs.declared.fault.RuleFault.{RuleFault}
 use Rattle.rules.specs.declared.row.Row.{Row}
@@ -8,10 +8,11 @@ use Rattle.rules.proofs.OneAnswer.{one_answer}
 use Rattle.cases.specs.declared.fault.CaseFault.TheVariants.{Rule}
 use Rattle.cases.specs.Fields.{Leads, CutShort}
 use Rattle.cases.specs.Contents.{Item, name, rule, Says, a_name, a_rule, an_entry, a_tick, Wrong}
+use Rattle.cases.specs.Readers.{Goes, passes, stays, GoesTo, last, over}
 use Rattle.cases.specs.Orders.{Stands, Follows}
 use Rattle.cases.specs.Headings.{refusal, Opens, missing, cut, wrong, misplaced, named, no_rule, ruled}
 use Rattle.cases.specs.Steps as step
-use Rattle.cases.specs.Laws.{OneField, OneItem, OneOpening, OneStep}
+use Rattle.cases.specs.Laws.{OneField, OneItem, OneOpening, OneStep, OnePlace}
 
 -- what the bytes say of their field, by place
 module _ (bytes : List ℕ) (tag : ℕ) (body rest : List ℕ) (l : Leads bytes tag body rest) where
@@ -72,7 +73,7 @@ module _ (bytes : List ℕ) {tag other : ℕ} {body rest more behind : List ℕ}
       let p = one_field bytes tag other body rest more behind l m in
       w i (subst (λ (k : ℕ). Says k more i) p.0 (subst (λ (v : List ℕ). Says tag v i) p.1 s))
 
-nothing_leads : (bytes : List ℕ) {tag : ℕ} {body rest : List ℕ} → bytes ≡ [] → Leads bytes tag body rest → ⊥
+pub nothing_leads : (bytes : List ℕ) {tag : ℕ} {body rest : List ℕ} → bytes ≡ [] → Leads bytes tag body rest → ⊥
 nothing_leads bytes e l = omega (arith, ap length (sym e ∙ l.whole))
 
 nothing_cut : (bytes : List ℕ) → bytes ≡ [] → CutShort bytes → ⊥
@@ -176,3 +177,20 @@ one_step n bytes r s (step.step {rest = xrest} {i = xi} xl xs xst xe) (step.cut 
 one_step n bytes r s (step.step {rest = xrest} {i = xi} xl xs xst xe) (step.wrong yl yw ye) = absurd (wrong_says bytes xl yl xi xs yw)
 one_step n bytes r s (step.step {rest = xrest} {i = xi} xl xs xst xe) (step.misplaced {i = yi} yl ys yoff ye) = absurd (yoff (subst Follows (says_same bytes xl yl xi yi xs ys) xst))
 one_step n bytes r s (step.step {rest = xrest} {i = xi} xl xs xst xe) (step.step {rest = yrest} {i = yi} yl ys yst ye) = xe ∙ ap (λ (i : Item). Ok (Some (record { field = n; item = i; next = n + 1; rest = xrest }))) (says_same bytes xl yl xi yi xs ys) ∙ ap (λ (v : List ℕ). Ok (Some (record { field = n; item = yi; next = n + 1; rest = v }))) (rests bytes xl yl) ∙ sym ye
+
+-- fields are asked for from the first on
+from_first : {k n m : ℕ} {bytes rest : List ℕ} → GoesTo k n bytes m rest → n ≤ k
+from_first (last e g) = omega (arith, e)
+from_first (over l g) = omega (arith, from_first g)
+
+one_going : (n m o : ℕ) (bytes rest more : List ℕ) → Goes n bytes m rest → Goes n bytes o more → (m ≡ o) × (rest ≡ more)
+one_going n m o bytes rest more (passes l e) (passes k f) = (e ∙ sym f, rests bytes l k)
+one_going n m o bytes rest more (passes l e) (stays z f g) = absurd (z _ _ _ l)
+one_going n m o bytes rest more (stays z e d) (passes l f) = absurd (z _ _ _ l)
+one_going n m o bytes rest more (stays z e d) (stays y f g) = (e ∙ sym f, d ∙ sym g)
+
+pub one_place : OnePlace
+one_place k n m o bytes rest more (last e g) (last f h) = one_going n m o bytes rest more g h
+one_place k n m o bytes rest more (last e g) (over l h) = absurd (omega (arith, e, from_first h))
+one_place k n m o bytes rest more (over l g) (last e h) = absurd (omega (arith, e, from_first g))
+one_place k n m o bytes rest more (over {between = x} l g) (over {between = y} j h) = one_place k (n + 1) m o x rest more g (subst (λ (v : List ℕ). GoesTo k (n + 1) v o more) (sym (rests bytes l j)) h)

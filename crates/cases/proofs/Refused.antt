@@ -1,9 +1,8 @@
 -- A reply whose fault is given the number of its field.
-use Rattle.std.proofs.Common.{◌≡◌, ℕ, Ok, Err, Result, refl}
+use Rattle.std.proofs.Common.{◌≡◌, Ok, Err, Result}
 use Rattle.std.specs.Result.{MatchResult}
 use Rattle.cases.specs.declared.fault.CaseFault.{CaseFault}
 use Rattle.cases.specs.declared.fault.CaseRefusal.{CaseRefusal}
-use Rattle.cases.specs.Headings.{refusal}
 
 module _ {A : Type 0} (r : Result A CaseFault) where
   pub kept : (x : A) → MatchResult r (λ y. ◌≡◌ {A = Result A CaseRefusal} (Ok x) (Ok y)) (λ f. ⊥) → r ≡ Ok x

@@ -13,7 +13,7 @@ use Rattle.cases.specs.declared.reader.CaseReader.{CaseReader}
 use Rattle.cases.specs.Fields.{Leads, CutShort}
 use Rattle.cases.specs.Contents.{Item, name, rule, Says, Wrong}
 use Rattle.cases.specs.Orders.{Admits, Stands}
-use Rattle.cases.specs.Readers.{left_of, Took}
+use Rattle.cases.specs.Readers.{left_of, next_of, Took, NoField}
 
 abbrev pub refusal : ℕ → CaseFault → CaseRefusal
 refusal n f = record { field = n; fault = f }
@@ -37,13 +37,24 @@ pub data Opens : ℕ → List (List ℕ) → List ℕ → Result Opened CaseRefu
 
 -- the answer, with what the reader has left then
 abbrev pub heading_reply : Result Heading CaseRefusal → CaseReader → Result Opened CaseRefusal
-heading_reply (Ok h) after = Ok (record { lines = h.lines; rows = table_of h.rule; next = after.number + 1; rest = left_of after })
+heading_reply (Ok h) after = Ok (record { lines = h.lines; rows = table_of h.rule; next = next_of after; rest = left_of after })
 heading_reply (Err e) after = Err e
 
--- the next field, which has to be there
+-- the last field that was asked for: the rule's, or the one that is refused
+abbrev pub last_field : Result Heading CaseRefusal → CaseReader → ℕ
+last_field (Ok h) after = after.number
+last_field (Err e) after = e.field
+
+-- the next field, which has to be there and whole; otherwise it is refused, and the reader is as it was
+pub record Lacks (before : CaseReader) (e : CaseRefusal) (after : CaseReader) : Type 0 where
+  pub answer : (names : List (List ℕ)) → Opens (next_of before) names (left_of before) (Err e)
+  pub none : NoField (left_of before)
+  pub number : e.field ≡ next_of before
+  pub kept : after ≡ before
+
 abbrev pub Wanted : CaseReader → Result Field CaseRefusal → CaseReader → Type 0
 Wanted before (Ok f) after = Took before f after
-Wanted before (Err e) after = (names : List (List ℕ)) → Opens (before.number + 1) names (left_of before) (Err e)
+Wanted before (Err e) after = Lacks before e after
 
 -- what one field does before the rule: it is one more name, it is the rule, or it is refused
 abbrev pub Head : List (List ℕ) → ℕ → List ℕ → Option RuleTable → Type 0

@@ -4,6 +4,7 @@ use Rattle.cases.specs.declared.fault.CaseRefusal.{CaseRefusal}
 use Rattle.cases.specs.declared.field.Entry.{Entry}
 use Rattle.cases.specs.Fields.{Leads}
 use Rattle.cases.specs.Contents.{Item, name, rule, entry, tick, Says}
+use Rattle.cases.specs.Readers.{GoesTo}
 use Rattle.cases.specs.Headings.{Opened, Opens}
 use Rattle.cases.specs.Steps.{Stepped, Steps}
 
@@ -18,6 +19,10 @@ OneOpening = (n : ℕ) (names : List (List ℕ)) (bytes : List ℕ) (r s : Resul
 
 abbrev pub OneStep : Type 0
 OneStep = (n : ℕ) (bytes : List ℕ) (r s : Result (Option Stepped) CaseRefusal) → Steps n bytes r → Steps n bytes s → r ≡ s
+
+-- asked for the fields up to one, reading stands at one place
+abbrev pub OnePlace : Type 0
+OnePlace = (k n m o : ℕ) (bytes rest more : List ℕ) → GoesTo k n bytes m rest → GoesTo k n bytes o more → (m ≡ o) × (rest ≡ more)
 
 -- a field in bytes, and a number in four bytes
 abbrev pub packed : ℕ → List ℕ → List ℕ

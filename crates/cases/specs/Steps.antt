@@ -11,7 +11,7 @@ use Rattle.cases.specs.Fields.{Leads, CutShort}
 use Rattle.cases.specs.Contents.{Item, entry, tick, Says, Wrong}
 use Rattle.cases.specs.Orders.{Follows}
 use Rattle.cases.specs.Headings.{refusal}
-use Rattle.cases.specs.Readers.{left_of}
+use Rattle.cases.specs.Readers.{left_of, next_of}
 
 -- a case has at most 16,384 bytes; a longer one is refused as a whole
 abbrev pub Sized : List ℕ → Result (Unit {0}) CaseRefusal → Type 0
@@ -39,7 +39,7 @@ call_item (Judge t) = tick t
 
 abbrev pub step_reply : Result (Option Step) CaseRefusal → CaseReader → Result (Option Stepped) CaseRefusal
 step_reply (Ok None) after = Ok None
-step_reply (Ok (Some s)) after = Ok (Some (record { field = s.field; item = call_item s.call; next = after.number + 1; rest = left_of after }))
+step_reply (Ok (Some s)) after = Ok (Some (record { field = s.field; item = call_item s.call; next = next_of after; rest = left_of after }))
 step_reply (Err e) after = Err e
 
 -- what a field says as a call

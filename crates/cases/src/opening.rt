@@ -1,8 +1,8 @@
 // Reading the fields up to the rule.
-ghost use Rattle.std.specs.Prelude.{◌+◌, []};
+ghost use Rattle.std.specs.Prelude.{[]};
 ghost use Rattle.tokens.specs.Answers.{texts};
-ghost use Rattle.cases.specs.Readers.{left_of};
-ghost use Rattle.cases.specs.Headings.{Opens, Heads, Wanted, heading_reply};
+ghost use Rattle.cases.specs.Readers.{left_of, next_of, AskedTo};
+ghost use Rattle.cases.specs.Headings.{Opens, Heads, Wanted, heading_reply, last_field};
 
 use crate::fault::{CaseFault, CaseRefusal};
 use crate::field::{Content, Field};
@@ -25,7 +25,7 @@ fn head(names: &[&[u8]], field: Field<'_>) -> Result<Option<Rule>, CaseFault>
     }
 }
 
-// The next field, where one has to follow.
+// The next field, where one has to follow; without one the reader stays where it is.
 fn wanted<'a>(reader: &mut CaseReader<'a>) -> Result<Field<'a>, CaseRefusal>
     ensures { Wanted reader.old result reader.new }
 {
@@ -34,9 +34,11 @@ fn wanted<'a>(reader: &mut CaseReader<'a>) -> Result<Field<'a>, CaseRefusal>
 }
 
 impl<'a> CaseReader<'a> {
-    // Reads names and the rule, from the place where the reader stands.
+    // Reads names and the rule, from the place where the reader stands. It stands behind the rule then, or behind the field that is refused; where
+    // that field is missing or cut short, before it.
     pub fn heading(&mut self) -> Result<Heading, CaseRefusal>
-        ensures { Opens (self.old.number + 1) [] (left_of self.old) (heading_reply result self.new) }
+        ensures answer { Opens (next_of self.old) [] (left_of self.old) (heading_reply result self.new) }
+        ensures left { AskedTo (last_field result self.new) self.old self.new }
     {
         let mut names: ArrayVec<&'a [u8], NAMES> = ArrayVec::new();
         // Field by field until the rule: there is no list to go over.

@@ -9,6 +9,7 @@ use crate::reader::CaseReader;
 impl<'a> CaseReader<'a> {
     // Before the first field.
     pub fn new(bytes: &'a [u8]) -> CaseReader<'a>
+        ensures bytes { result.bytes ≡ bytes.entry }
         ensures left { left_of result ≡ bytes.now }
         ensures number { result.number ≡ 0 }
     {
@@ -19,7 +20,7 @@ impl<'a> CaseReader<'a> {
         }
     }
 
-    // The next field, if there is one; one that is cut short is refused.
+    // The next field, if there is one; one that is cut short is refused. Either of these leaves the reader where it stands.
     pub fn next(&mut self) -> Result<Option<Field<'a>>, CaseRefusal>
         ensures { Next self.old result self.new }
     {

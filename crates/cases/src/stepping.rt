@@ -1,6 +1,6 @@
 // Reading the fields behind the rule.
-ghost use Rattle.std.specs.Prelude.{◌+◌, ◌<◌, ◌≤◌, length};
-ghost use Rattle.cases.specs.Readers.{left_of};
+ghost use Rattle.std.specs.Prelude.{◌<◌, ◌≤◌, length};
+ghost use Rattle.cases.specs.Readers.{left_of, next_of, Asked};
 ghost use Rattle.cases.specs.Steps.{Called, Steps, step_reply, Sized};
 
 use crate::call::{Call, Step};
@@ -33,9 +33,10 @@ fn call_of(field: Field<'_>) -> Result<Call, CaseFault>
 }
 
 impl<'a> CaseReader<'a> {
-    // The next call, if there is one.
+    // The next call, if there is one. A field that is refused is behind the reader, unless it is cut short.
     pub fn step(&mut self) -> Result<Option<Step>, CaseRefusal>
-        ensures { Steps (self.old.number + 1) (left_of self.old) (step_reply result self.new) }
+        ensures answer { Steps (next_of self.old) (left_of self.old) (step_reply result self.new) }
+        ensures left { Asked self.old self.new }
     {
         let Some(field) = self.next()? else {
             return Ok(None);

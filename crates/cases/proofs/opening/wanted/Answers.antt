@@ -9,7 +9,7 @@ pub returns-in_err-next : goal.returns-in_err-next
 returns-in_err-next c =
     let p = err_from_is_err_and c.from_residual.result c.from_residual.ensures.1 in
     let h = c.in_err-next.ensures in
-    rw (p.1, p.2) (λ names. cut h.0 (ap (λ (e : CaseRefusal). Err e) h.1))
+    rw (p.1, p.2) (record { answer = λ names. cut h.0 (ap (λ (e : CaseRefusal). Err e) h.1); none = h.0.none; number = ap (λ (e : CaseRefusal). e.field) h.1; kept = h.2 })
 
 pub returns : goal.returns
 returns c = rw c.ok_or.ensures.value (waits _ _ c.in_ok-next.next c.at.result c.in_ok-next.ensures c.at.ensures)

@@ -10,4 +10,5 @@ returns c =
       leads = taken c.args.self.now.bytes.now c.args.self.now.at _ _ (omega arith) (omega (arith, c.from_be_bytes.ensures, c.from-size.ensures)) cut.0 cut.1;
       number = refl;
       count = refl;
+      same = refl;
     }
