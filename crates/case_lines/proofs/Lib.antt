@@ -6,3 +6,4 @@ pub mod Carried
 pub mod Whole
 pub mod OneListing
 pub mod Left
+pub mod ListingRuns

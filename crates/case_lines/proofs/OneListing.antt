@@ -18,6 +18,7 @@ use Rattle.cases.specs.Contents.{Item, entry, tick}
 use Rattle.cases.specs.Headings.{Opened}
 use Rattle.cases.specs.Steps.{Sized, Stepped}
 use Rattle.cases.proofs.OneReading.{one_opening, one_step}
+use Rattle.cases.proofs.OpenedRules.{heading_apart, same_heading}
 use Rattle.case_lines.specs.Lines.{refused_line, refusal_line, verdict_line, mark_lines, entry_text}
 use Rattle.case_lines.specs.Calls.{Enters}
 use Rattle.case_lines.specs.Listings.{CellCounts, Ticks, no_truth, no_margin, no_marks, verdict, Does, enters, ticks, Lists, ended, refused, does, too_long, no_heading, listed}
@@ -125,14 +126,8 @@ module _ (cells : CellCounts) (rows : List Row) where
       let rest = lists_one x.next z x.rest j j' l (subst (λ (y : State). Lists cells rows x.next y x.rest j') (sym one.1) (subst (λ (o : Stepped). Lists cells rows o.next z' o.rest j') same l')) in
       e ∙ (λ o. one.0 o ++ rest o) ∙ sym f
 
-sized_one : (case : List ℕ) (e : CaseRefusal) → Sized case (Ok tt) → Sized case (Err e) → ⊥
+pub sized_one : (case : List ℕ) (e : CaseRefusal) → Sized case (Ok tt) → Sized case (Err e) → ⊥
 sized_one case e h g = omega (arith, h, g.0)
-
-heading_apart : (o : Opened) (e : CaseRefusal) → ◌≡◌ {A = Result Opened CaseRefusal} (Ok o) (Err e) → ⊥
-heading_apart o e h = let z : ◌≡◌ {A = ℕ} 0 1 = cc in omega arith
-
-same_heading : (o p : Opened) → ◌≡◌ {A = Result Opened CaseRefusal} (Ok o) (Ok p) → o ≡ p
-same_heading o p h = cc
 
 same_fault : (x y : CaseRefusal) → ◌≡◌ {A = Result Opened CaseRefusal} (Err x) (Err y) → x ≡ y
 same_fault x y h = cc

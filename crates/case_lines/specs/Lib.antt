@@ -3,4 +3,5 @@ pub mod Writes
 pub mod Calls
 pub mod Listings
 pub mod Leaves
+pub mod Runs
 pub mod Laws

@@ -6,3 +6,4 @@ pub mod CallSteps
 pub mod OneReading
 pub mod Packing
 pub mod Standing
+pub mod OpenedRules

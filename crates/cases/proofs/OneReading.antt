@@ -5,6 +5,7 @@ use Rattle.rules.specs.declared.fault.RuleFault.{RuleFault}
 use Rattle.rules.specs.declared.row.Row.{Row}
 use Rattle.rules.specs.Texts.{Answer, Answered}
 use Rattle.rules.proofs.OneAnswer.{one_answer}
+use Rattle.rules.proofs.AnswerSound.{ok_err, rows_of_answer}
 use Rattle.cases.specs.declared.fault.CaseFault.TheVariants.{Rule}
 use Rattle.cases.specs.Fields.{Leads, CutShort}
 use Rattle.cases.specs.Contents.{Item, name, rule, Says, a_name, a_rule, an_entry, a_tick, Wrong}
@@ -94,12 +95,6 @@ text_of w v e = cc
 fault_of : (f g : RuleFault) → ◌≡◌ {A = Answer} (Err f) (Err g) → f ≡ g
 fault_of f g e = cc
 
-rows_of : (x y : List Row) → ◌≡◌ {A = Answer} (Ok x) (Ok y) → x ≡ y
-rows_of x y e = cc
-
-ok_err : (x : List Row) (f : RuleFault) → ◌≡◌ {A = Answer} (Ok x) (Err f) → ⊥
-ok_err x f e = let z : ◌≡◌ {A = ℕ} 0 1 = cc in omega arith
-
 pub one_opening : OneOpening
 one_opening n names bytes r s (missing xz xe) (missing yz ye) = xe ∙ sym ye
 one_opening n names bytes r s (missing xz xe) (cut yc ye) = absurd (nothing_cut bytes xz yc)
@@ -149,7 +144,7 @@ one_opening n names bytes r s (ruled {rest = xrest} {text = xt} xrows xl xs xst 
 one_opening n names bytes r s (ruled {rest = xrest} {text = xt} xrows xl xs xst xa xe) (misplaced {i = yi} yl ys yoff ye) = absurd (yoff (subst (Stands names) (says_same bytes xl yl (rule xt) yi xs ys) xst))
 one_opening n names bytes r s (ruled {rest = xrest} {text = xt} xrows xl xs xst xa xe) (named {rest = yrest} {w = yv} yl ys yst yo) = absurd (name_rule yv xt (sym (says_same bytes xl yl (rule xt) (name yv) xs ys)))
 one_opening n names bytes r s (ruled {rest = xrest} {text = xt} xrows xl xs xst xa xe) (no_rule {text = yt} yf yl ys yst ya ye) = absurd (ok_err xrows yf (one_answer names xt (Ok xrows) (Err yf) xa (subst (λ (v : List ℕ). Answered names v (Err yf)) (sym (text_of xt yt (says_same bytes xl yl (rule xt) (rule yt) xs ys))) ya)))
-one_opening n names bytes r s (ruled {rest = xrest} {text = xt} xrows xl xs xst xa xe) (ruled {rest = yrest} {text = yt} yrows yl ys yst ya ye) = xe ∙ ap (λ (v : List Row). Ok (record { lines = length names; rows = v; next = n + 1; rest = xrest })) (rows_of xrows yrows (one_answer names xt (Ok xrows) (Ok yrows) xa (subst (λ (v : List ℕ). Answered names v (Ok yrows)) (sym (text_of xt yt (says_same bytes xl yl (rule xt) (rule yt) xs ys))) ya))) ∙ ap (λ (v : List ℕ). Ok (record { lines = length names; rows = yrows; next = n + 1; rest = v })) (rests bytes xl yl) ∙ sym ye
+one_opening n names bytes r s (ruled {rest = xrest} {text = xt} xrows xl xs xst xa xe) (ruled {rest = yrest} {text = yt} yrows yl ys yst ya ye) = xe ∙ ap (λ (v : List Row). Ok (record { lines = length names; rows = v; next = n + 1; rest = xrest })) (rows_of_answer xrows yrows (one_answer names xt (Ok xrows) (Ok yrows) xa (subst (λ (v : List ℕ). Answered names v (Ok yrows)) (sym (text_of xt yt (says_same bytes xl yl (rule xt) (rule yt) xs ys))) ya))) ∙ ap (λ (v : List ℕ). Ok (record { lines = length names; rows = yrows; next = n + 1; rest = v })) (rests bytes xl yl) ∙ sym ye
 
 pub one_step : OneStep
 one_step n bytes r s (step.ended xz xe) (step.ended yz ye) = xe ∙ sym ye

@@ -11,3 +11,4 @@ pub mod Checking
 pub mod Answering
 pub mod OneAnswer
 pub mod Stopping
+pub mod AnswerSound

@@ -23,14 +23,14 @@ returns-in_err-heading-clause-prints c =
     let lent : Lent = record { pieces = length c.args.pieces.now; cells = counts c.args.cells.now } in
     let p = err_from_is_err_and c.from_residual-in_err-heading.result c.from_residual-in_err-heading.ensures.1 in
     rw (p.1, p.2)
-    (unopened lent c.args.case.now (string_bytes c.args.text.now) c.in_ok-check_size.ensures c.new-reader.result.number (left_of c.new-reader.result) c.new-reader.ensures.number c.new-reader.ensures.left _ c.in_err-heading.ensures)
+    (unopened lent c.args.case.now (string_bytes c.args.text.now) c.in_ok-check_size.ensures c.new-reader.result.number (left_of c.new-reader.result) c.new-reader.ensures.number c.new-reader.ensures.left _ c.in_err-heading.ensures.answer)
 
 pub returns-clause-prints : goal.returns-clause-prints
 returns-clause-prints c =
     let lent : Lent = record { pieces = length c.args.pieces.now; cells = counts c.args.cells.now } in
     let o : Opened = record { lines = c.in_ok-heading.heading.lines; rows = table_of c.in_ok-heading.heading.rule; next = next_of c.heading.new.self; rest = left_of c.heading.new.self } in
     carried lent c.args.case.now (string_bytes c.args.text.now) c.in_ok-check_size.ensures c.new-reader.result.number (left_of c.new-reader.result) c.new-reader.ensures.number c.new-reader.ensures.left
-    c.write_steps.result (string_bytes c.write_steps.new.text) o (state_of c.open-job.result) c.in_ok-heading.ensures c.open-job.ensures.state c.write_steps.ensures.prints
+    c.write_steps.result (string_bytes c.write_steps.new.text) o (state_of c.open-job.result) c.in_ok-heading.ensures.answer c.open-job.ensures.state c.write_steps.ensures.prints
 
 pub returns-in_err-check_size-clause-leaves : goal.returns-in_err-check_size-clause-leaves
 returns-in_err-check_size-clause-leaves c =
@@ -41,12 +41,12 @@ pub returns-in_err-heading-clause-leaves : goal.returns-in_err-heading-clause-le
 returns-in_err-heading-clause-leaves c =
     let p = err_from_is_err_and c.from_residual-in_err-heading.result c.from_residual-in_err-heading.ensures.1 in
     rw (p.1, p.2)
-    (no_heading _ c.in_ok-check_size.ensures (whole c.args.case.now c.new-reader.result.number (left_of c.new-reader.result) c.new-reader.ensures.number c.new-reader.ensures.left (Err _) c.in_err-heading.ensures) refl refl)
+    (no_heading _ c.in_ok-check_size.ensures (whole c.args.case.now c.new-reader.result.number (left_of c.new-reader.result) c.new-reader.ensures.number c.new-reader.ensures.left (Err _) c.in_err-heading.ensures.answer) refl refl)
 
 pub returns-clause-leaves : goal.returns-clause-leaves
 returns-clause-leaves c =
     let o : Opened = record { lines = c.in_ok-heading.heading.lines; rows = table_of c.in_ok-heading.heading.rule; next = next_of c.heading.new.self; rest = left_of c.heading.new.self } in
     let left =
-    case_left c.args.case.now c.args.pieces.now o c.in_ok-check_size.ensures (whole c.args.case.now c.new-reader.result.number (left_of c.new-reader.result) c.new-reader.ensures.number c.new-reader.ensures.left (Ok o) c.in_ok-heading.ensures)
+    case_left c.args.case.now c.args.pieces.now o c.in_ok-check_size.ensures (whole c.args.case.now c.new-reader.result.number (left_of c.new-reader.result) c.new-reader.ensures.number c.new-reader.ensures.left (Ok o) c.in_ok-heading.ensures.answer)
     c.open-job.result c.write_steps.new.job c.open-job.ensures.state c.open-job.ensures.behind c.write_steps.ensures.pieces c.write_steps.result (contents c.args.cells.now) (contents c.write_steps.new.cells) c.write_steps.ensures.leaves in
     subst (λ (v : List (Piece Reading)). InMemory c.write_steps.result (CaseLeaves c.args.case.now c.args.pieces.now v (contents c.args.cells.now) (contents c.write_steps.new.cells))) (search rules) left

@@ -17,8 +17,8 @@ returns-in_err-step c =
     rw (p.1, p.2)
     (record {
       prints = stopped (counts c.args.cells.now) (table_of c.args.rule.now) (next_of c.args.reader.now) (state_of c.args.job.now) (left_of c.args.reader.now) (string_bytes c.args.text.now)
-          (next_of c.loop-step.reader) (state_of c.loop-step.job) (left_of c.loop-step.reader) (string_bytes c.loop-step.text) c.loop-step.invariant.0 _ c.in_err-step.ensures;
-      leaves = left_stopped (table_of c.args.rule.now) (next_of c.args.reader.now) (state_of c.args.job.now) (left_of c.args.reader.now) (contents c.args.cells.now) (next_of c.loop-step.reader) (state_of c.loop-step.job) (left_of c.loop-step.reader) (contents c.loop-step.cells) c.loop-step.invariant.2 _ c.in_err-step.ensures;
+          (next_of c.loop-step.reader) (state_of c.loop-step.job) (left_of c.loop-step.reader) (string_bytes c.loop-step.text) c.loop-step.invariant.0 _ c.in_err-step.ensures.answer;
+      leaves = left_stopped (table_of c.args.rule.now) (next_of c.args.reader.now) (state_of c.args.job.now) (left_of c.args.reader.now) (contents c.args.cells.now) (next_of c.loop-step.reader) (state_of c.loop-step.job) (left_of c.loop-step.reader) (contents c.loop-step.cells) c.loop-step.invariant.2 _ c.in_err-step.ensures.answer;
       pieces = c.loop-step.invariant.3;
       loan = c.loop-step.invariant.4;
       kept = c.loop-step.invariant.1;
@@ -28,7 +28,7 @@ returns-in_err-step c =
 pub loop-step-preserved : goal.loop-step-preserved
 loop-step-preserved c =
     let x : Stepped = record { field = c.in-Some.step.field; item = call_item c.in-Some.step.call; next = next_of c.step.new.self; rest = left_of c.step.new.self } in
-    let steps = subst (λ (o : Option Step). Steps (next_of c.loop-step.reader) (left_of c.loop-step.reader) (step_reply (Ok o) c.step.new.self)) c.in-Some.is c.in_ok-step.ensures in (
+    let steps = subst (λ (o : Option Step). Steps (next_of c.loop-step.reader) (left_of c.loop-step.reader) (step_reply (Ok o) c.step.new.self)) c.in-Some.is c.in_ok-step.ensures.answer in (
       onward (counts c.args.cells.now) (table_of c.args.rule.now) (next_of c.args.reader.now) (state_of c.args.job.now) (left_of c.args.reader.now) (string_bytes c.args.text.now)
           (next_of c.loop-step.reader) (state_of c.loop-step.job) (left_of c.loop-step.reader) (string_bytes c.loop-step.text) c.loop-step.invariant.0
           (counts c.loop-step.cells) c.loop-step.invariant.1 x (state_of c.write_step.new.job) (string_bytes c.write_step.new.text)
@@ -42,7 +42,7 @@ loop-step-preserved c =
 
 pub returns : goal.returns
 returns c =
-    let steps = subst (λ (o : Option Step). Steps (next_of c.loop-step.reader) (left_of c.loop-step.reader) (step_reply (Ok o) c.step.new.self)) c.in_default.is c.in_ok-step.ensures in
+    let steps = subst (λ (o : Option Step). Steps (next_of c.loop-step.reader) (left_of c.loop-step.reader) (step_reply (Ok o) c.step.new.self)) c.in_default.is c.in_ok-step.ensures.answer in
     record {
       prints =
           over (counts c.args.cells.now) (table_of c.args.rule.now) (next_of c.args.reader.now) (state_of c.args.job.now) (left_of c.args.reader.now) (string_bytes c.args.text.now)

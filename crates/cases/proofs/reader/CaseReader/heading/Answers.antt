@@ -1,10 +1,6 @@
-use Rattle.std.proofs.Common.{◌≡◌, Err, sym, ◌∙◌, subst, arith, rules}
+use Rattle.std.proofs.Common.{◌≡◌, ◌∙◌, arith, rules}
 use Rattle.std.proofs.lemmas.List.{length-map}
 use Rattle.std.proofs.lemmas.Result.{err_from_is_err_and}
-use Rattle.cases.specs.declared.fault.CaseFault.{CaseFault}
-use Rattle.cases.specs.declared.fault.CaseRefusal.{CaseRefusal}
-use Rattle.cases.specs.Readers.{next_of}
-use Rattle.cases.specs.Headings.{refusal}
 use Rattle.cases.proofs.Heads.{finished, onward}
 use Rattle.cases.proofs.Refused.{kept}
 use Rattle.cases.proofs.Standing as standing
@@ -41,6 +37,5 @@ pub returns-in_err-found-clause-left : goal.returns-in_err-found-clause-left
 returns-in_err-found-clause-left c =
     let p = err_from_is_err_and c.from_residual-in_err-found.result c.from_residual-in_err-found.ensures.1 in
     let took = c.in_ok-field.ensures in
-    let f : (x : CaseFault) × (c.head.result ≡ Err x) × (c.in_err-found.field-0.0 ≡ refusal c.in_ok-field.field.number x) = search rules in
-    let here : c.in_err-found.field-0.0.field ≡ next_of c.loop-field.self = subst (λ (e : CaseRefusal). e.field ≡ next_of c.loop-field.self) (sym f.2) took.number in
-    rw (p.1, p.2) (c.loop-field.invariant.2 _ c.wanted.new.reader (standing.ends c.loop-field.self c.wanted.new.reader _ here (standing.taken c.loop-field.self c.wanted.new.reader c.in_ok-field.field took)))
+    let here : c.in_err-found.field-0.0.field ≡ c.in_ok-field.field.number = search rules in
+    rw (p.1, p.2) (c.loop-field.invariant.2 _ c.wanted.new.reader (standing.ends c.loop-field.self c.wanted.new.reader _ (here ∙ took.number) (standing.taken c.loop-field.self c.wanted.new.reader c.in_ok-field.field took)))
