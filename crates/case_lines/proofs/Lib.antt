@@ -7,3 +7,4 @@ pub mod Whole
 pub mod OneListing
 pub mod Left
 pub mod ListingRuns
+pub mod SomeListing

@@ -1,22 +1,16 @@
 -- Listings as runs of calls.
-use Rattle.std.proofs.Common.{◌≡◌, ℕ, true, false, List, [], ◌∷◌, ◌++◌, Some, None, Ok, Err, Result, sym, refl, ap, ◌∙◌, subst}
-use Rattle.rules.specs.declared.row.Row.{Row}
-use Rattle.rules.specs.Rows.{Sound}
+use Rattle.std.proofs.Common.{ℕ, List, [], ◌∷◌, ◌++◌, Ok, Err, sym, refl, ◌∙◌, subst}
 use Rattle.runs.specs.States.{State, opened, line_count}
 use Rattle.runs.specs.Calls.{Table}
 use Rattle.runs.specs.Runs.{Event, Turn, Ran}
 use Rattle.runs.proofs.Turns.{ran_split, ran_join}
-use Rattle.cases.specs.declared.fault.CaseRefusal.{CaseRefusal}
-use Rattle.cases.specs.declared.field.Entry.{Entry}
-use Rattle.cases.specs.Contents.{Item, entry, tick}
-use Rattle.cases.specs.Headings.{Opened, Opens}
-use Rattle.cases.specs.Steps.{Sized, Stepped, Steps}
+use Rattle.cases.specs.Contents.{Item}
+use Rattle.cases.specs.Headings.{Opened}
 use Rattle.cases.proofs.OneReading.{one_opening}
 use Rattle.cases.proofs.OpenedRules.{opened_sound, heading_apart, same_heading}
-use Rattle.case_lines.specs.Calls.{Enters}
 use Rattle.case_lines.specs.Listings.{CellCounts, Ticks, Does, Lists, Lent, Listing, too_long, no_heading, listed}
 use Rattle.case_lines.specs.Listings as does
-use Rattle.case_lines.specs.Runs.{kinds, entered, in_truth, in_margin, marking, Prints, enters, no_truth, no_margin, no_marks, verdict, AllPrint, ended, refused, prints, RunPrints, ListingsRun}
+use Rattle.case_lines.specs.Runs.{kinds, entered, in_truth, in_margin, marking, Prints, enters, no_truth, no_margin, no_marks, verdict, AllPrint, ended, refused, prints, ListingsRun, RunsList}
 use Rattle.case_lines.proofs.OneListing.{sized_one}
 
 module _ (cells : CellCounts) (rule : Table) where
@@ -78,7 +72,7 @@ module _ (cells : CellCounts) (rule : Table) where
       let a = ran_split kinds s z fs gs (subst (λ (v : List (Event kinds)). Ran kinds s v z) e h) in
       does.does x p (done x.field x.item s a.0 first fs d a.1.0) (lists x.next a.0 z x.rest more gs l a.1.1) w
 
-run : (lent : Lent) (case text : List ℕ) (o : Opened) → Sized case (Ok tt) → Opens 1 [] case (Ok o) → Listing lent case text → RunPrints lent o text
+pub run : ListingsRun
 run lent case text o sized opens (too_long x p e) = absurd (sized_one case x sized p)
 run lent case text o sized opens (no_heading x p g e) = absurd (heading_apart o x (one_opening 1 [] case (Ok o) (Err x) opens g))
 run lent case text o sized opens (listed i p g l) =
@@ -88,8 +82,6 @@ run lent case text o sized opens (listed i p g l) =
     let r = runs lent.cells (record { rows = o.rows; sound = sound }) o.next (opened (line_count o.lines lent.pieces)) o.rest text all in
     record { sound = sound; events = r.events; end = r.end; ran = r.ran; printed = r.printed }
 
-pub listings_run : ListingsRun
-listings_run = record {
-  run = run;
-  back = λ lent case text o sized opens r. listed o sized opens (lists lent.cells (record { rows = o.rows; sound = r.sound }) o.next (opened (line_count o.lines lent.pieces)) r.end o.rest text r.events r.printed r.ran);
-}
+pub back : RunsList
+back lent case text o sized opens r =
+    listed o sized opens (lists lent.cells (record { rows = o.rows; sound = r.sound }) o.next (opened (line_count o.lines lent.pieces)) r.end o.rest text r.events r.printed r.ran)

@@ -59,7 +59,10 @@ pub record RunPrints (lent : Lent) (o : Opened) (text : List ℕ) : Type 0 where
   pub ran : Ran kinds (opened (line_count o.lines lent.pieces)) events end
   pub printed : AllPrint lent.cells (record { rows = o.rows; sound = sound }) o.next o.rest events text
 
--- of a case whose heading opens a job, a listing is what the replies of such a run print, and what they print is a listing
-pub record ListingsRun : Type 0 where
-  pub run : (lent : Lent) (case text : List ℕ) (o : Opened) → Sized case (Ok tt) → Opens 1 [] case (Ok o) → Listing lent case text → RunPrints lent o text
-  pub back : (lent : Lent) (case text : List ℕ) (o : Opened) → Sized case (Ok tt) → Opens 1 [] case (Ok o) → RunPrints lent o text → Listing lent case text
+-- a listing behind a heading that is read is what the replies of such a run print
+abbrev pub ListingsRun : Type 0
+ListingsRun = (lent : Lent) (case text : List ℕ) (o : Opened) → Sized case (Ok tt) → Opens 1 [] case (Ok o) → Listing lent case text → RunPrints lent o text
+
+-- and what the replies of such a run print is a listing
+abbrev pub RunsList : Type 0
+RunsList = (lent : Lent) (case text : List ℕ) (o : Opened) → Sized case (Ok tt) → Opens 1 [] case (Ok o) → RunPrints lent o text → Listing lent case text

@@ -1,22 +1,24 @@
 // What holds of every case, on the contracts of functions.
 ghost use Rattle.runs.specs.Law.{LawOfRuns};
-ghost use Rattle.case_lines.specs.Laws.{OneListing};
-ghost use Rattle.case_lines.specs.Runs.{kinds, ListingsRun};
+ghost use Rattle.case_lines.specs.Laws.{OneListing, SomeListing};
+ghost use Rattle.case_lines.specs.Runs.{kinds, ListingsRun, RunsList};
 
 use grades::margin::Margin;
 use grades::truth::Truth;
 use runs::family::Both;
 use runs::law::runs_keep_the_law;
 
-// With so many cells lent, a case has one listing at most.
+// With so many cells lent, a case has one listing at most; and it has one, once its fields up to the rule have an answer.
 pub fn listings_are_one()
-    ensures { OneListing }
+    ensures one { OneListing }
+    ensures some { SomeListing }
 {}
 
-// The listing of a case whose heading is read is what the replies of a run of calls print, in truth and in margin; so what the law of runs
-// says of every such run, nesting, exact grades and marks, holds of each listing.
+// The listing of a case whose heading is read is what the replies of a run of calls print, in truth and in margin, and what they print is the
+// listing. So what the law of runs says of every such run, nesting, exact grades and marks, holds of each listing.
 pub fn listings_are_runs()
     ensures run { ListingsRun }
+    ensures back { RunsList }
     ensures law { LawOfRuns kinds }
 {
     runs_keep_the_law::<Both<Truth, Margin>>();

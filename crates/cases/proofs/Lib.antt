@@ -7,3 +7,4 @@ pub mod OneReading
 pub mod Packing
 pub mod Standing
 pub mod OpenedRules
+pub mod SomeStep

@@ -139,7 +139,7 @@ module _ (e : ℕ) (far : 1000000001 ≤ e) where
   enter_told s ends line from to lower upper =
       (sealed? s.sealed, λ _. (dec_lt line (length s.lines), λ _. (both? (dec_lt from to) (dec_le to 1000000001), λ st. (ends? lower upper, λ h. (narrows? s line from to lower upper h, λ _. (room? e s ends line from to lower upper (omega (arith, st.1)) h, λ _. tt))))))
 
-  enter_goes : (s : State) → EndsAt e s → (line from to : ℕ) (lower upper : ℤ) → Goes e (JobTurn s (enter line from to lower upper))
+  pub enter_goes : (s : State) → EndsAt e s → (line from to : ℕ) (lower upper : ℤ) → Goes e (JobTurn s (enter line from to lower upper))
   enter_goes s ends line from to lower upper = by (first_failing (enter_asks s line from to lower upper) (enter_told s ends line from to lower upper))
     where
       by : (o : Option ℕ) × FirstFailing (enter_asks s line from to lower upper) o → Goes e (JobTurn s (enter line from to lower upper))
