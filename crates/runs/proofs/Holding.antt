@@ -44,6 +44,12 @@ module _ {N : Type 0} (kinds : N → Kind) where
   pub own_verdict : (e : Event kinds) (n : N) (rows : List Row) (t : ℕ) (p : Span (kinds n).Value) (ms : List Mark) → MarksBy kinds e n rows t p ms → Gives kinds e n rows t p
   own_verdict e n rows t p ms (marked a c w k m is) = by_mark a c w k m is
 
+  pub own_alone : (start z : State) (before behind : List (Event kinds)) (m : Event kinds) (n : N) (rows : List Row) (t : ℕ) (p q : Span (kinds n).Value) (ms : List Mark) → Ran kinds start (before ++ (m ∷ behind)) z → MarksBy kinds m n rows t p ms → Gives kinds m n rows t q → q ≡ p
+  own_alone start z before behind m n rows t p q ms h g i =
+      let a = ran_split kinds start z before (m ∷ behind) h in
+      let turn = a.1.1.1.0 in
+      (said a.0 a.1.1.0 m n rows t q turn i).is ∙ sym (said_marks a.0 a.1.1.0 m n rows t p ms turn g).says.is
+
   -- the states around two events of a run
   pub record Around (before between behind : List (Event kinds)) (e f : Event kinds) (start : State) : Type 0 where
     pub at : State

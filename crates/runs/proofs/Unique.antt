@@ -1,5 +1,5 @@
 -- A list of calls has one run at most.
-use Rattle.std.proofs.Common.{◌≡◌, ℕ, ◌<◌, Bool, true, false, ltb, ◌⊎◌, List, [], ◌∷◌, set, Some, None, Ok, Err, Option, Result, sym, refl, ap, ◌∙◌, subst, inl, inr, arith, ltb-false, ltb-true}
+use Rattle.std.proofs.Common.{◌≡◌, ℕ, ◌<◌, Bool, true, false, ltb, ◌⊎◌, List, [], ◌∷◌, ◌++◌, set, Some, None, Ok, Err, Option, Result, sym, refl, ap, ◌∙◌, subst, inl, inr, arith, ltb-false, ltb-true}
 use Rattle.grades.specs.Kinds.{Kind}
 use Rattle.grades.specs.Ranges.{Span}
 use Rattle.pieces.specs.declared.piece.Piece.{Piece}
@@ -13,9 +13,9 @@ use Rattle.runs.specs.States.{State, opened, readings_of}
 use Rattle.runs.specs.Conditions.{Condition, FirstFailing}
 use Rattle.runs.specs.Jobs.{JobCall, enter, known, tally, seal, JobAnswer, first_unknown, counted, FirstUnknown, job_asks, JobDoes, JobTurn}
 use Rattle.runs.specs.Calls.{Table, Marking, judge_asks, mark_asks, JudgeTurn, MarkTurn}
-use Rattle.runs.specs.Runs.{Call, on_job, judge, mark, Reply, event, Replies, events, Turn, Ran}
+use Rattle.runs.specs.Runs.{Call, on_job, judge, mark, Reply, Event, event, Replies, events, Turn, Ran}
 use Rattle.runs.specs.Law.{Run}
-use Rattle.runs.proofs.Turns.{made_is}
+use Rattle.runs.proofs.Turns.{made_is, ran_split}
 
 pub one_failing : (cs : List Condition) (o p : Option ℕ) → FirstFailing cs o → FirstFailing cs p → o ≡ p
 one_failing [] o p h k = h ∙ sym k
@@ -108,3 +108,11 @@ module _ {N : Type 0} (kinds : N → Kind) where
 
   pub run_one : (lines : ℕ) (cs : List (Call kinds)) (r q : Run kinds lines cs) → (r.replies ≡ q.replies) × (r.end ≡ q.end)
   run_one lines cs r q = let s = ran_one (opened lines) cs r.replies q.replies r.end q.end r.ran q.ran in (s.reply, s.end)
+
+  -- events lead to one state at most
+  end_one : (s z y : State) (es : List (Event kinds)) → Ran kinds s es z → Ran kinds s es y → z ≡ y
+  end_one s z y [] h k = h ∙ sym k
+  end_one s z y (event c r ∷ es) h k = end_one k.0 z y es (subst (λ (v : State). Ran kinds v es z) (turn_one s c r r h.0 k.0 h.1.0 k.1.0).end h.1.1) k.1.1
+
+  pub each : (lines : ℕ) (before behind : List (Event kinds)) (z : State) → Ran kinds (opened lines) (before ++ behind) z → (m : State) × (Ran kinds (opened lines) before m × Ran kinds m behind z × ((w : State) → Ran kinds (opened lines) before w → w ≡ m))
+  each lines before behind z h = let r = ran_split kinds (opened lines) z before behind h in (r.0, (r.1.0, r.1.1, λ w k. end_one (opened lines) w r.0 before k r.1.0))

@@ -21,6 +21,10 @@ module _ {N : Type 0} (kinds : N → Kind) where
     -- every list of calls has a run, and only one
     pub some : (lines : ℕ) (calls : List (Call kinds)) → Run lines calls
     pub one : (lines : ℕ) (calls : List (Call kinds)) (r s : Run lines calls) → (r.replies ≡ s.replies) × (r.end ≡ s.end)
+    -- each state on the way is fixed: the calls up to there lead to it alone, and the others go on from it
+    pub each :
+        (lines : ℕ) (before behind : List (Event kinds)) (z : State) →
+        Ran kinds (opened lines) (before ++ behind) z → (m : State) × (Ran kinds (opened lines) before m × Ran kinds m behind z × ((w : State) → Ran kinds (opened lines) before w → w ≡ m))
     -- the job's piece lists read exactly what the accepted entries have set
     pub reads : (lines : ℕ) (es : List (Event kinds)) (z : State) → Ran kinds (opened lines) es z → (line t : ℕ) → readings_of z line t ≡ standing kinds es line t
     -- a verdict lies inside each earlier one on the same rule, tick and kind
@@ -31,8 +35,13 @@ module _ {N : Type 0} (kinds : N → Kind) where
     pub hold :
         (lines : ℕ) (z : State) (before behind : List (Event kinds)) (e : Event kinds) (n : N) (rows : List Row) (t : ℕ) (p : Span (kinds n).Value) (y : Readings) →
         Ran kinds (opened lines) (before ++ (e ∷ behind)) z → Gives kinds e n rows t p → AllExact y → AllWithin y (standing kinds before) → Holds (kinds n) p (exact_grade (kinds n) rows y t)
-    -- a marking gives a verdict of its own, and each later one is the same while no accepted entry touches a listed stretch
+    -- a marking gives a verdict of its own
     pub own : (m : Event kinds) (n : N) (rows : List Row) (t : ℕ) (p : Span (kinds n).Value) (ms : List Mark) → MarksBy kinds m n rows t p ms → Gives kinds m n rows t p
+    -- and no other
+    pub own_alone :
+        (lines : ℕ) (z : State) (before behind : List (Event kinds)) (m : Event kinds) (n : N) (rows : List Row) (t : ℕ) (p q : Span (kinds n).Value) (ms : List Mark) →
+        Ran kinds (opened lines) (before ++ (m ∷ behind)) z → MarksBy kinds m n rows t p ms → Gives kinds m n rows t q → q ≡ p
+    -- each later verdict is the same while no accepted entry touches a listed stretch
     pub suffice :
         (lines : ℕ) (z : State) (before between behind : List (Event kinds)) (m f : Event kinds) (n : N) (rows : List Row) (t : ℕ) (p q : Span (kinds n).Value) (ms : List Mark) →
         Ran kinds (opened lines) (before ++ (m ∷ (between ++ (f ∷ behind)))) z → MarksBy kinds m n rows t p ms → Gives kinds f n rows t q → AllMiss kinds rows ms between → q ≡ p

@@ -1,7 +1,7 @@
 use Rattle.runs.specs.States.{opened}
 use Rattle.runs.proofs.Turns.{opened_reads}
-use Rattle.runs.proofs.Holding.{own_verdict, nest, hold, suffice, settle_own, settle}
-use Rattle.runs.proofs.Unique.{run_one}
+use Rattle.runs.proofs.Holding.{own_verdict, own_alone, nest, hold, suffice, settle_own, settle}
+use Rattle.runs.proofs.Unique.{run_one, each}
 use Rattle.runs.proofs.Exists.{run_exists}
 use Rattle.runs.proofs.law.runs_keep_the_law.Goals as goal
 
@@ -12,10 +12,12 @@ returns g c =
     record {
       some = run_exists kinds lawful;
       one = run_one kinds;
+      each = each kinds;
       reads = λ lines es z h. opened_reads kinds lines z es h;
       nest = λ lines z. nest kinds lawful (opened lines) z;
       hold = hold kinds lawful;
       own = own_verdict kinds;
+      own_alone = λ lines z. own_alone kinds (opened lines) z;
       suffice = λ lines z. suffice kinds lawful (opened lines) z;
       settle_own = settle_own kinds lawful;
       settle = settle kinds lawful;
