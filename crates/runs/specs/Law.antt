@@ -17,39 +17,75 @@ module _ {N : Type 0} (kinds : N → Kind) where
     pub end : State
     pub ran : Ran kinds (opened lines) (events kinds calls replies) end
 
+  -- every list of calls has a run
+  abbrev pub SomeRun : Type 0
+  SomeRun = (lines : ℕ) (calls : List (Call kinds)) → Run lines calls
+
+  -- and only one
+  abbrev pub OneRun : Type 0
+  OneRun = (lines : ℕ) (calls : List (Call kinds)) (r s : Run lines calls) → (r.replies ≡ s.replies) × (r.end ≡ s.end)
+
+  -- each state on the way is fixed: the calls up to there lead to it alone, and the others go on from it
+  abbrev pub EachState : Type 0
+  EachState =
+      (lines : ℕ) (before behind : List (Event kinds)) (z : State) →
+      Ran kinds (opened lines) (before ++ behind) z → (m : State) × (Ran kinds (opened lines) before m × Ran kinds m behind z × ((w : State) → Ran kinds (opened lines) before w → w ≡ m))
+
+  -- the job's piece lists read exactly what the accepted entries have set
+  abbrev pub ReadsEntries : Type 0
+  ReadsEntries = (lines : ℕ) (es : List (Event kinds)) (z : State) → Ran kinds (opened lines) es z → (line t : ℕ) → readings_of z line t ≡ standing kinds es line t
+
+  -- a verdict lies inside each earlier one on the same rule, tick and kind
+  abbrev pub VerdictsNest : Type 0
+  VerdictsNest =
+      (lines : ℕ) (z : State) (before between behind : List (Event kinds)) (e f : Event kinds) (n : N) (rows : List Row) (t : ℕ) (p q : Span (kinds n).Value) →
+      Ran kinds (opened lines) (before ++ (e ∷ (between ++ (f ∷ behind)))) z → Gives kinds e n rows t p → Gives kinds f n rows t q → Inside (kinds n) q p
+
+  -- a verdict holds the exact grade of each exact job inside the readings standing at its call
+  abbrev pub VerdictsHold : Type 0
+  VerdictsHold =
+      (lines : ℕ) (z : State) (before behind : List (Event kinds)) (e : Event kinds) (n : N) (rows : List Row) (t : ℕ) (p : Span (kinds n).Value) (y : Readings) →
+      Ran kinds (opened lines) (before ++ (e ∷ behind)) z → Gives kinds e n rows t p → AllExact y → AllWithin y (standing kinds before) → Holds (kinds n) p (exact_grade (kinds n) rows y t)
+
+  -- a marking gives a verdict of its own
+  abbrev pub OwnVerdict : Type 0
+  OwnVerdict = (m : Event kinds) (n : N) (rows : List Row) (t : ℕ) (p : Span (kinds n).Value) (ms : List Mark) → MarksBy kinds m n rows t p ms → Gives kinds m n rows t p
+
+  -- and no other
+  abbrev pub OwnAlone : Type 0
+  OwnAlone =
+      (lines : ℕ) (z : State) (before behind : List (Event kinds)) (m : Event kinds) (n : N) (rows : List Row) (t : ℕ) (p q : Span (kinds n).Value) (ms : List Mark) →
+      Ran kinds (opened lines) (before ++ (m ∷ behind)) z → MarksBy kinds m n rows t p ms → Gives kinds m n rows t q → q ≡ p
+
+  -- each later verdict is the same while no accepted entry touches a listed stretch
+  abbrev pub MarksSuffice : Type 0
+  MarksSuffice =
+      (lines : ℕ) (z : State) (before between behind : List (Event kinds)) (m f : Event kinds) (n : N) (rows : List Row) (t : ℕ) (p q : Span (kinds n).Value) (ms : List Mark) →
+      Ran kinds (opened lines) (before ++ (m ∷ (between ++ (f ∷ behind)))) z → MarksBy kinds m n rows t p ms → Gives kinds f n rows t q → AllMiss kinds rows ms between → q ≡ p
+
+  -- a marking's own verdict is settled if at its call every tick of each listed stretch has a reading with equal ends
+  abbrev pub OwnSettled : Type 0
+  OwnSettled =
+      (lines : ℕ) (z : State) (before behind : List (Event kinds)) (m : Event kinds) (n : N) (rows : List Row) (t : ℕ) (p : Span (kinds n).Value) (ms : List Mark) →
+      Ran kinds (opened lines) (before ++ (m ∷ behind)) z → MarksBy kinds m n rows t p ms → AtMarks rows ms (λ line u. Exact (standing kinds before line u)) → Settled (kinds n) p
+
+  -- and so is each later one, if they have at its own call
+  abbrev pub MarksSettle : Type 0
+  MarksSettle =
+      (lines : ℕ) (z : State) (before between behind : List (Event kinds)) (m f : Event kinds) (n : N) (rows : List Row) (t : ℕ) (p q : Span (kinds n).Value) (ms : List Mark) →
+      Ran kinds (opened lines) (before ++ (m ∷ (between ++ (f ∷ behind)))) z → MarksBy kinds m n rows t p ms → Gives kinds f n rows t q →
+      AtMarks rows ms (λ line u. Exact (standing kinds (before ++ (m ∷ between)) line u)) → Settled (kinds n) q
+
+  -- all of it
   pub record LawOfRuns : Type 0 where
-    -- every list of calls has a run, and only one
-    pub some : (lines : ℕ) (calls : List (Call kinds)) → Run lines calls
-    pub one : (lines : ℕ) (calls : List (Call kinds)) (r s : Run lines calls) → (r.replies ≡ s.replies) × (r.end ≡ s.end)
-    -- each state on the way is fixed: the calls up to there lead to it alone, and the others go on from it
-    pub each :
-        (lines : ℕ) (before behind : List (Event kinds)) (z : State) →
-        Ran kinds (opened lines) (before ++ behind) z → (m : State) × (Ran kinds (opened lines) before m × Ran kinds m behind z × ((w : State) → Ran kinds (opened lines) before w → w ≡ m))
-    -- the job's piece lists read exactly what the accepted entries have set
-    pub reads : (lines : ℕ) (es : List (Event kinds)) (z : State) → Ran kinds (opened lines) es z → (line t : ℕ) → readings_of z line t ≡ standing kinds es line t
-    -- a verdict lies inside each earlier one on the same rule, tick and kind
-    pub nest :
-        (lines : ℕ) (z : State) (before between behind : List (Event kinds)) (e f : Event kinds) (n : N) (rows : List Row) (t : ℕ) (p q : Span (kinds n).Value) →
-        Ran kinds (opened lines) (before ++ (e ∷ (between ++ (f ∷ behind)))) z → Gives kinds e n rows t p → Gives kinds f n rows t q → Inside (kinds n) q p
-    -- a verdict holds the exact grade of each exact job inside the readings standing at its call
-    pub hold :
-        (lines : ℕ) (z : State) (before behind : List (Event kinds)) (e : Event kinds) (n : N) (rows : List Row) (t : ℕ) (p : Span (kinds n).Value) (y : Readings) →
-        Ran kinds (opened lines) (before ++ (e ∷ behind)) z → Gives kinds e n rows t p → AllExact y → AllWithin y (standing kinds before) → Holds (kinds n) p (exact_grade (kinds n) rows y t)
-    -- a marking gives a verdict of its own
-    pub own : (m : Event kinds) (n : N) (rows : List Row) (t : ℕ) (p : Span (kinds n).Value) (ms : List Mark) → MarksBy kinds m n rows t p ms → Gives kinds m n rows t p
-    -- and no other
-    pub own_alone :
-        (lines : ℕ) (z : State) (before behind : List (Event kinds)) (m : Event kinds) (n : N) (rows : List Row) (t : ℕ) (p q : Span (kinds n).Value) (ms : List Mark) →
-        Ran kinds (opened lines) (before ++ (m ∷ behind)) z → MarksBy kinds m n rows t p ms → Gives kinds m n rows t q → q ≡ p
-    -- each later verdict is the same while no accepted entry touches a listed stretch
-    pub suffice :
-        (lines : ℕ) (z : State) (before between behind : List (Event kinds)) (m f : Event kinds) (n : N) (rows : List Row) (t : ℕ) (p q : Span (kinds n).Value) (ms : List Mark) →
-        Ran kinds (opened lines) (before ++ (m ∷ (between ++ (f ∷ behind)))) z → MarksBy kinds m n rows t p ms → Gives kinds f n rows t q → AllMiss kinds rows ms between → q ≡ p
-    -- a marking's own verdict, and each later one, are settled if at its call every tick of each listed stretch has a reading with equal ends
-    pub settle_own :
-        (lines : ℕ) (z : State) (before behind : List (Event kinds)) (m : Event kinds) (n : N) (rows : List Row) (t : ℕ) (p : Span (kinds n).Value) (ms : List Mark) →
-        Ran kinds (opened lines) (before ++ (m ∷ behind)) z → MarksBy kinds m n rows t p ms → AtMarks rows ms (λ line u. Exact (standing kinds before line u)) → Settled (kinds n) p
-    pub settle :
-        (lines : ℕ) (z : State) (before between behind : List (Event kinds)) (m f : Event kinds) (n : N) (rows : List Row) (t : ℕ) (p q : Span (kinds n).Value) (ms : List Mark) →
-        Ran kinds (opened lines) (before ++ (m ∷ (between ++ (f ∷ behind)))) z → MarksBy kinds m n rows t p ms → Gives kinds f n rows t q →
-        AtMarks rows ms (λ line u. Exact (standing kinds (before ++ (m ∷ between)) line u)) → Settled (kinds n) q
+    pub some : SomeRun
+    pub one : OneRun
+    pub each : EachState
+    pub reads : ReadsEntries
+    pub nest : VerdictsNest
+    pub hold : VerdictsHold
+    pub own : OwnVerdict
+    pub own_alone : OwnAlone
+    pub suffice : MarksSuffice
+    pub settle_own : OwnSettled
+    pub settle : MarksSettle
