@@ -1,1 +1,3 @@
 mod Ranges
+mod Blanks
+mod Firsts

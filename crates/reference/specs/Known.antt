@@ -33,6 +33,13 @@ kept None t = widest
 abbrev pub reading : Forecast → ℕ → ℕ → Ends
 reading f line t = kept (slice_get f.readings line) (min t 48)
 
+-- a forecast of so many lines, three at most, of which nothing is known
+pub record Opened (lines : ℕ) (f : Forecast) : Type 0 where
+  pub few : f.lines ≡ min lines 3
+  pub none_yet : f.tally ≡ 0
+  pub unsealed : f.sealed ≡ false
+  pub unknown : (line t : ℕ) → reading f line t ≡ widest
+
 -- there is a first tick before the end, and no tick lies behind the last
 abbrev pub Stretch : Entry → Type 0
 Stretch e = (e.from < e.to) × (e.to ≤ 1000000001)
@@ -55,16 +62,31 @@ Answered f e (Err NotReading) = (f.sealed ≡ false) × (e.line < f.lines) × St
 Answered f e (Err NotInside) = (f.sealed ≡ false) × (e.line < f.lines) × Stretch e × Readable e × (Narrows f e → ⊥)
 Answered f e (Err TooManyPieces) = ⊥
 
+-- the tick is in the entry's stretch on the line
+abbrev pub Covers : Entry → ℕ → ℕ → Type 0
+Covers e line t = (line ≡ e.line) × (e.from ≤ t) × (t < e.to)
+
+-- the readings of the lines that are kept are the entry's where it covers them, and elsewhere as they were
+pub record Set (f : Forecast) (e : Entry) (g : Forecast) : Type 0 where
+  pub inside : (line t : ℕ) → line < 3 → t < 49 → Covers e line t → reading g line t ≡ ends_of e
+  pub outside : (line t : ℕ) → t < 49 → (Covers e line t → ⊥) → reading g line t ≡ reading f line t
+
 -- setting a reading leaves all else alone
 pub record Kept (f g : Forecast) : Type 0 where
   pub lines : g.lines ≡ f.lines
   pub sealed : g.sealed ≡ f.sealed
   pub tally : g.tally ≡ f.tally
 
--- an entry is counted, and the job stays open with its lines; one that is turned down changes nothing
+-- an entry is set and counted, and the job stays open with its lines; one that is turned down changes nothing
 abbrev pub Left : Forecast → Entry → Result (Unit {0}) EnterFault → Forecast → Type 0
-Left f e (Ok u) g = (g.lines ≡ f.lines) × (g.sealed ≡ f.sealed) × (g.tally ≡ min (f.tally + 1) 4294967295)
+Left f e (Ok u) g = (g.lines ≡ f.lines) × (g.sealed ≡ f.sealed) × (g.tally ≡ min (f.tally + 1) 4294967295) × Set f e g
 Left f e (Err fault) g = g ≡ f
+
+-- the first tick with the widest reading: tick 48, where there is none before it
+pub record FirstWidest (f : Forecast) (line t : ℕ) : Type 0 where
+  pub within : t ≤ 48
+  pub here : t < 48 → reading f line t ≡ widest
+  pub before : (k : ℕ) → k < t → reading f line k ≢ widest
 
 -- the first tick from t on at which the line reads otherwise than at t, if there is one
 abbrev pub Changed : Forecast → ℕ → ℕ → Option ℕ → Type 0

@@ -1,2 +1,3 @@
 pub mod Gradings
 pub mod Known
+pub mod Tables

@@ -1,5 +1,6 @@
 // Ranges of grades as plain numbers.
 ghost use Rattle.std.specs.Prelude.{◌≡◌, ℤ, pos, negsuc, refl};
+ghost use Rattle.std.specs.Int.{int_min, int_max};
 ghost use Rattle.reference.specs.Gradings.{Grading, Lawful, truths, margins, truths_lawful, margins_lawful};
 ghost use Rattle.reference.specs.Known.{ends_of, Tells, Within};
 
@@ -92,7 +93,9 @@ impl From<Entry> for Ends {
 
 impl Ends {
     // The lower of two, end by end.
-    pub fn lower_of(self, other: Ends) -> Ends {
+    pub fn lower_of(self, other: Ends) -> Ends
+        ensures { result ≡ record { lower = int_min self.lower other.lower; upper = int_min self.upper other.upper } }
+    {
         Ends {
             lower: self.lower.min(other.lower),
             upper: self.upper.min(other.upper),
@@ -100,7 +103,9 @@ impl Ends {
     }
 
     // The upper of two, end by end.
-    pub fn upper_of(self, other: Ends) -> Ends {
+    pub fn upper_of(self, other: Ends) -> Ends
+        ensures { result ≡ record { lower = int_max self.lower other.lower; upper = int_max self.upper other.upper } }
+    {
         Ends {
             lower: self.lower.max(other.lower),
             upper: self.upper.max(other.upper),
@@ -117,7 +122,10 @@ impl Ends {
         }
     }
 
-    pub fn settled(self) -> bool {
+    // Whether both ends are one number.
+    pub fn settled(self) -> bool
+        ensures { Tells result (self.lower ≡ self.upper) }
+    {
         self.lower == self.upper
     }
 

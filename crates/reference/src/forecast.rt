@@ -1,6 +1,7 @@
 // What is known of up to three lines, kept tick by tick up to a horizon.
-ghost use Rattle.std.specs.Prelude.{◌≡◌, min};
-ghost use Rattle.reference.specs.Known.{reading, Within, Tells, Narrows, Answered, Kept, Left, Changed};
+ghost use Rattle.std.specs.Prelude.{◌≡◌, ℕ, ◌<◌, ◌≤◌, ◌⊎◌, min, slice_index_or};
+ghost use Rattle.reference.specs.declared.ends.Ends.{Ends};
+ghost use Rattle.reference.specs.Known.{ends_of, reading, Within, Tells, Narrows, Opened, Answered, Set, Kept, Left, Changed, FirstWidest};
 
 use crate::ends::Ends;
 use cases::field::Entry;
@@ -32,13 +33,27 @@ pub struct Forecast {
 
 // The ticks of the entry that are kept.
 fn kept_ticks(entry: Entry) -> Range<usize>
-    ensures { result ≡ record { start = entry.from; end = min entry.to 49 } }
+    ensures { result ≡ record { start = min entry.from (min entry.to 49); end = min entry.to 49 } }
 {
-    entry.from as usize..(entry.to as usize).min(TICKS)
+    let end = (entry.to as usize).min(TICKS);
+    (entry.from as usize).min(end)..end
+}
+
+// The readings of a line, with those of the entry on the ticks of its stretch.
+fn filled(mut readings: [Ends; TICKS], entry: Entry) -> [Ends; TICKS]
+    ensures inside { (t : ℕ) (d : Ends) → t < 49 → entry.from ≤ t → t < entry.to → slice_index_or result t d ≡ ends_of entry }
+    ensures outside { (t : ℕ) (d : Ends) → t < 49 → (t < entry.from) ⊎ (entry.to ≤ t) → slice_index_or result t d ≡ slice_index_or readings t d }
+{
+    let ticks = kept_ticks(entry);
+    readings[ticks.start..ticks.end].fill(Ends::from(entry));
+    readings
 }
 
 impl Forecast {
-    pub fn new(lines: usize) -> Forecast {
+    // So many lines, as far as they are kept, of which nothing is known.
+    pub fn new(lines: usize) -> Forecast
+        ensures { Opened lines result }
+    {
         Forecast {
             lines: lines.min(LINES),
             tally: 0,
@@ -87,12 +102,12 @@ impl Forecast {
     }
 
     fn set(&mut self, entry: Entry)
-        ensures { Kept self.old self.new }
+        ensures readings { Set self.old entry self.new }
+        ensures others { Kept self.old self.new }
     {
-        if let Some(readings) = self.readings.get_mut(entry.line as usize)
-            && let Some(readings) = readings.get_mut(kept_ticks(entry))
-        {
-            readings.fill(Ends::from(entry));
+        let line = entry.line as usize;
+        if line < LINES {
+            self.readings[line] = filled(self.readings[line], entry);
         }
     }
 
@@ -115,8 +130,10 @@ impl Forecast {
         (t..TICKS).find(|u| self.reading(line, *u) != reading)
     }
 
-    // The first tick with the widest reading.
-    pub fn known(&self, line: usize) -> usize {
+    // The first tick with the widest reading: the horizon, where there is none before it.
+    pub fn known(&self, line: usize) -> usize
+        ensures { FirstWidest self.now line result }
+    {
         (0..HORIZON)
             .find(|t| self.reading(line, *t) == WIDEST)
             .unwrap_or(HORIZON)

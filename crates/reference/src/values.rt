@@ -1,4 +1,7 @@
 // The values of a rule's rows at each tick.
+ghost use Rattle.std.specs.Prelude.{◌≡◌};
+ghost use Rattle.reference.specs.Tables.{value_at};
+
 use crate::ends::{Ends, Scale};
 use crate::forecast::{Forecast, HORIZON, TICKS};
 use rules::row::{Row, Side};
@@ -40,7 +43,9 @@ fn window(t: usize, from: u32, to: u32) -> RangeInclusive<usize> {
 }
 
 impl Values {
-    pub fn at(&self, row: usize, t: usize) -> Ends {
+    pub fn at(&self, row: usize, t: usize) -> Ends
+        ensures { result ≡ value_at self.now row t }
+    {
         match self.rows.get(row) {
             Some(values) => values[t.min(HORIZON)],
             None => NOTHING,

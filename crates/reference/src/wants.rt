@@ -1,4 +1,7 @@
 // At which ticks each row is wanted.
+ghost use Rattle.std.specs.Prelude.{◌≡◌};
+ghost use Rattle.reference.specs.Tables.{wanted_at};
+
 use crate::ends::Scale;
 use crate::values::{ROWS, Values, ahead};
 use rules::row::Row;
@@ -19,7 +22,9 @@ fn only_lowest<S: Scale>(values: &Values, row: usize, t: usize) -> bool {
 }
 
 impl Wants {
-    pub fn at(&self, row: usize, t: usize) -> bool {
+    pub fn at(&self, row: usize, t: usize) -> bool
+        ensures { result ≡ wanted_at self.now row t }
+    {
         match self.rows.get(row) {
             Some(wants) => t < WANT_TICKS && wants[t],
             None => false,

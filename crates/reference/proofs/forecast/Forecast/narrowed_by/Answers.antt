@@ -8,4 +8,4 @@ use Rattle.reference.proofs.forecast.Forecast.narrowed_by.Goals as goal
 pub returns : goal.returns
 returns c =
     let P : ℕ → Type 0 = λ t. Within (ends_of c.args.entry) (reading c.args.self.now c.args.entry.line t) in
-    each_tested P c.args.entry.from c.args.entry.to 49 _ c.all.result refl (cases_from_all _ _ c.all.result P (λ t. P t → ⊥) c.all.ensures.ran (YieldsList-from_range c.args.entry.from (min c.args.entry.to 49) _ c.kept_ticks.ensures refl) (λ x q k. search (rules, tests)) (λ x q k. search (rules, tests)))
+    each_tested P c.args.entry.from c.args.entry.to 49 _ _ c.all.result refl refl (cases_from_all _ _ c.all.result P (λ t. P t → ⊥) c.all.ensures.ran (YieldsList-from_range (min c.args.entry.from (min c.args.entry.to 49)) (min c.args.entry.to 49) _ c.kept_ticks.ensures refl) (λ x q k. search (rules, tests)) (λ x q k. search (rules, tests)))
