@@ -1,1 +1,2 @@
 mod Questions
+mod Blanks

@@ -1,17 +1,26 @@
 -- An entry that is made on a job and on the reference.
-use Rattle.std.specs.Prelude.{Ok, Err, Result}
+use Rattle.std.specs.Prelude.{List, Ok, Err, Result}
 use Rattle.cases.specs.declared.field.Entry.{Entry}
 use Rattle.runs.specs.States.{State}
 use Rattle.runs.specs.Jobs.{JobTurn, enter}
 use Rattle.jobs.specs.declared.fault.EnterFault.{EnterFault}
 use Rattle.jobs.specs.Faults.{enter_reply}
+use Rattle.jobs.specs.Entries.{Changes}
+use Rattle.reference.specs.declared.forecast.Forecast.{Forecast}
+use Rattle.reference.specs.Known.{Answered, Left}
 use Rattle.compare.specs.declared.mismatch.Mismatch.{Mismatch}
 
--- the job takes the step of the entry, from the state s to z, and answers r
-abbrev pub Enters : State → Entry → Result (Unit {0}) EnterFault → State → Type 0
-Enters s e r z = JobTurn s (enter e.line e.from e.to e.lower e.upper) (enter_reply r) z
+-- the job takes the step of the entry, from the state s to z, and answers r; of its cells only the line's own change, and none where r is a fault
+pub record Enters {X : Type 0} (s : State) (before : List X) (e : Entry) (r : Result (Unit {0}) EnterFault) (z : State) (after : List X) : Type 0 where
+  pub turn : JobTurn s (enter e.line e.from e.to e.lower e.upper) (enter_reply r) z
+  pub cells : Changes e.line before after r
 
--- the same, where the job's answer is given unless the two disagree
-abbrev pub EntersBoth : State → Entry → Result (Result (Unit {0}) EnterFault) Mismatch → State → Type 0
-EntersBoth s e (Ok r) z = Enters s e r z
-EntersBoth s e (Err m) z = (r : Result (Unit {0}) EnterFault) × Enters s e r z
+-- the reference answers r, and comes from f to g
+pub record Notes (f : Forecast) (e : Entry) (r : Result (Unit {0}) EnterFault) (g : Forecast) : Type 0 where
+  pub answer : Answered f e r
+  pub left : Left f e r g
+
+-- P holds of the answer that is given, or of some answer where the two disagree
+abbrev pub Given : Result (Result (Unit {0}) EnterFault) Mismatch → (Result (Unit {0}) EnterFault → Type 0) → Type 0
+Given (Ok r) P = P r
+Given (Err m) P = (r : Result (Unit {0}) EnterFault) × P r

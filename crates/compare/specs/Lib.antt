@@ -2,3 +2,4 @@ pub mod Scales
 pub mod Rooms
 pub mod Questions
 pub mod Entering
+pub mod Cells

@@ -1,5 +1,6 @@
 // Cells that the judge writes, told apart and compared.
-ghost use Rattle.std.specs.Prelude.{◌≡◌, ℤ, pos, negsuc, true, not, take_while};
+ghost use Rattle.std.specs.Prelude.{◌≡◌, ℤ, pos, negsuc, true, not, take_while, IfOk};
+ghost use Rattle.compare.specs.Cells.{Blanks, unwritten_behind, alike, hold_list};
 ghost use Rattle.compare.specs.Scales.{Numbers, truth_number, truths_numbered, margins_numbered};
 
 use grades::grade::Grade;
@@ -194,8 +195,16 @@ impl Cell for Mark {
     }
 }
 
-pub fn blanks<C: Cell>(heap: Global, count: usize) -> Result<Vec<C>, AllocError> {
-    vec![in heap; C::blank(); count]
+// So many cells, none of which was written.
+pub fn blanks<C: Cell>(heap: Global, count: usize) -> Result<Vec<C>, AllocError>
+    ensures { IfOk result (λ cells. Blanks C.held C.unwritten count cells.items) }
+{
+    let mut cells = Vec::new(heap);
+    // Not by `vec!`: that a clone holds the same is no law of cells.
+    for _ in 0..count {
+        cells.push(C::blank())?;
+    }
+    Ok(cells)
 }
 
 fn is_blank<C: Cell>(cell: C) -> bool
@@ -213,12 +222,16 @@ pub fn written<C: Cell>(cells: &[C]) -> &[C]
 }
 
 // Whether no cell from `used` on was written.
-pub fn blank_from<C: Cell>(cells: &[C], used: usize) -> bool {
+pub fn blank_from<C: Cell>(cells: &[C], used: usize) -> bool
+    ensures { result ≡ unwritten_behind C.held C.Held.eq C.unwritten used cells.now }
+{
     cells.iter().skip(used).all(|cell| is_blank(*cell))
 }
 
 // Whether both have so many cells, and these are the same.
-pub fn begin_alike<C: Cell>(one: &[C], other: &[C], used: usize) -> bool {
+pub fn begin_alike<C: Cell>(one: &[C], other: &[C], used: usize) -> bool
+    ensures { result ≡ alike C.held C.Held.eq used one.now other.now }
+{
     match (one.get(..used), other.get(..used)) {
         (Some(one), Some(other)) => one
             .iter()
@@ -229,7 +242,9 @@ pub fn begin_alike<C: Cell>(one: &[C], other: &[C], used: usize) -> bool {
 }
 
 // Whether the cells hold the list and no more.
-pub(crate) fn hold<C: Cell>(cells: &[C], list: &[C::Held]) -> bool {
+pub(crate) fn hold<C: Cell>(cells: &[C], list: &[C::Held]) -> bool
+    ensures { result ≡ hold_list C.held C.Held.eq cells.now list.now }
+{
     cells.len() == list.len()
         && cells
             .iter()

@@ -1,8 +1,7 @@
 // Entries, made on a job and on the reference.
-ghost use Rattle.std.specs.Prelude.{◌≡◌, IfOk};
-ghost use Rattle.jobs.specs.Jobs.{state_of};
-ghost use Rattle.reference.specs.Known.{Answered};
-ghost use Rattle.compare.specs.Entering.{EntersBoth};
+ghost use Rattle.std.specs.Prelude.{◌≡◌};
+ghost use Rattle.jobs.specs.Jobs.{state_of, cells_of};
+ghost use Rattle.compare.specs.Entering.{Given, Enters, Notes};
 
 use crate::cells::ends_read;
 use crate::mismatch::{Mismatch, ensure};
@@ -48,8 +47,8 @@ impl Pair<'_> {
 
     // Makes the entry on both, and gives their answer.
     pub fn enter(&mut self, entry: Entry) -> Result<Result<(), EnterFault>, Mismatch>
-        ensures job { EntersBoth (state_of self.old.job) entry result (state_of self.new.job) }
-        ensures reference { IfOk result (λ r. Answered self.old.forecast entry r) }
+        ensures job { Given result (λ r. Enters (state_of self.old.job) (cells_of self.old.job) entry r (state_of self.new.job) (cells_of self.new.job)) }
+        ensures reference { Given result (λ r. Notes self.old.forecast entry r self.new.forecast) }
     {
         let answer = self.forecast.enter(entry);
         let found = self

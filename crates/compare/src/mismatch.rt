@@ -1,5 +1,6 @@
 // What a trial found to disagree.
 ghost use Rattle.std.specs.Prelude.{◌≡◌, true, false, MatchResult};
+ghost use Rattle.compare.specs.declared.mismatch.Mismatch.TheVariants.{Memory};
 
 use std::alloc::AllocError;
 
@@ -32,6 +33,8 @@ pub enum Mismatch {
 }
 
 impl From<AllocError> for Mismatch {
+    ghost from_gives = { λ e r. r ≡ Memory };
+
     fn from(_error: AllocError) -> Mismatch {
         Mismatch::Memory
     }
