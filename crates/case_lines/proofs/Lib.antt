@@ -8,3 +8,4 @@ pub mod OneListing
 pub mod Left
 pub mod ListingRuns
 pub mod SomeListing
+pub mod OneLeaving

@@ -100,3 +100,8 @@ abbrev pub InMemory : Result (Unit {0}) ListFault → Type 0 → Type 0
 InMemory (Ok u) P = P
 InMemory (Err (Refused e)) P = P
 InMemory (Err NoMemory) P = Unit {0}
+
+-- a case leaves one thing in the judge's cells, and the same lines in the piece cells
+abbrev pub OneLeaving : Type 0
+OneLeaving =
+    (case : List ℕ) (pieces p q : List (Piece Reading)) (before a b : Contents) → CaseLeaves case pieces p before a → CaseLeaves case pieces q before b → (a ≡ b) × ((lines : List (List (Piece Reading))) × LinesLie lines pieces p × LinesLie lines pieces q)

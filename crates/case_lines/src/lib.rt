@@ -5,6 +5,7 @@ mod calling;
 pub mod cells;
 mod fault;
 pub mod laws;
+pub mod leaving;
 pub mod lines;
 pub mod listing;
 mod ticking;

@@ -22,7 +22,7 @@ use Rattle.judge.proofs.JudgedTables.{refused_first, judged_first}
 module _ {K : Kind} (L : Lawful K) {G : Type 0} (val : G → K.Value) (s : State) (rows : List Row) (sound : Sound rows) (tick : ℕ) (cells cells' : List (Piece (Range G))) (wants wants' : List (Piece Bool)) (marks marks' : List Mark) where
   -- all want lists fit if the written ones do
   wants_fit : (wss : List (List (Piece Bool))) → WantLists K rows (readings_of s) tick wss → length (all wss) ≤ length wants → (vss : List (List (Piece Bool))) → WantLists K rows (readings_of s) tick vss → length (all vss) ≤ length wants
-  wants_fit wss h fits vss k = subst (λ zss. length (all zss) ≤ length wants) (one_want_lists L rows sound (readings_of s) tick wss vss h k) fits
+  wants_fit wss h fits vss k = subst (λ zss. length (all zss) ≤ length wants) (one_want_lists K rows (readings_of s) tick wss vss h k) fits
 
   marks_fit : (ms : List Mark) → Marks K rows (readings_of s) tick ms → length ms ≤ length marks → (ns : List Mark) → Marks K rows (readings_of s) tick ns → length ns ≤ length marks
   marks_fit ms h fits ns k = subst (λ zs. length zs ≤ length marks) (lists_same {P = Marked K rows (readings_of s) tick} ms ns h k) fits

@@ -45,7 +45,7 @@ module _ {K : Kind} (L : Lawful K) (rows : List Row) (sound : Sound rows) (x : R
 
     -- whatever tells where the row is wanted is the same function of ticks
     one_want : (w : ℕ → Bool) → TellsWanted K rows x tick (root rows - i) w → w ≡ wants_by L rows sound x tick i
-    one_want w h = fun_ext (λ u. told_same L rows sound x (Wanted K rows (value (ranges K) rows x) tick (root rows - i) u) (w u) (wants_by L rows sound x tick i u) (h u) (wants_by_tell L rows sound x tick i u))
+    one_want w h = fun_ext (λ u. told_same (Wanted K rows (value (ranges K) rows x) tick (root rows - i) u) (w u) (wants_by L rows sound x tick i u) (h u) (wants_by_tell L rows sound x tick i u))
 
     -- the next list fits
     pub wants_more : (E : Type 0) → i < length rows → (after : List (Piece Bool)) → length after ≡ length cells → (n : ℕ) → WantWritten K rows x tick {E = E} i cells used after (Ok n) → FilledWants first (i + 1) (set starts (i + 1) n) after n

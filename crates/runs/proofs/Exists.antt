@@ -223,7 +223,7 @@ module _ {K : Kind} (L : Lawful K) where
     mark_told t wants marks =
         let w = want_lists L rows a.sound x t in
         let m = has_marks L a.sound x t in
-        (as? (λ few pss h. subst (λ (v : List (List (Piece Bool))). length (all v) ≤ wants) (one_want_lists L rows a.sound x t w.0 pss w.1 h) few) (λ fit. fit w.0 w.1) (dec_le (length (all w.0)) wants), λ _. (as? (λ few ms h. subst (λ (v : List Mark). length v ≤ marks) (lists_same {P = Marked K rows x t} m.0 ms m.1 h) few) (λ fit. fit m.0 m.1) (dec_le (length m.0) marks), λ _. tt))
+        (as? (λ few pss h. subst (λ (v : List (List (Piece Bool))). length (all v) ≤ wants) (one_want_lists K rows x t w.0 pss w.1 h) few) (λ fit. fit w.0 w.1) (dec_le (length (all w.0)) wants), λ _. (as? (λ few ms h. subst (λ (v : List Mark). length v ≤ marks) (lists_same {P = Marked K rows x t} m.0 ms m.1 h) few) (λ fit. fit m.0 m.1) (dec_le (length m.0) marks), λ _. tt))
 
     pub mark_goes : (t cells wants marks : ℕ) → (r : Result (Marking K) ℕ) × MarkTurn K s rows t cells wants marks r
     mark_goes t cells wants marks = by (first_failing (judge_asks K s rows t cells (mark_asks K s rows t wants marks)) (judge_told t cells (mark_asks K s rows t wants marks) (mark_told t wants marks)))

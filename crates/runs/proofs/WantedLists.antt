@@ -16,6 +16,13 @@ use Rattle.meaning.proofs.Bounded.{wanted_near}
 use Rattle.runs.specs.Calls.{WantLists}
 use Rattle.runs.proofs.Collecting.{collect, same_lists}
 
+-- two that tell the same are the same
+pub told_same : (P : Type 0) (b c : Bool) → Tells b P → Tells c P → b ≡ c
+told_same P true true h k = refl
+told_same P true false h k = absurd (k h)
+told_same P false true h k = absurd (h k)
+told_same P false false h k = refl
+
 module _ {K : Kind} (L : Lawful K) (rows : List Row) (sound : Sound rows) (x : Readings) where
   -- at which ticks a row is wanted
   pub wanted_at : (t k u : ℕ) → (b : Bool) × Tells b (Wanted K rows (value (ranges K) rows x) t k u)
@@ -64,13 +71,7 @@ module _ {K : Kind} (L : Lawful K) (rows : List Row) (sound : Sound rows) (x : R
   pub want_lists : (t : ℕ) → (pss : List (List (Piece Bool))) × WantLists K rows x t pss
   want_lists t = let c = wants_listed t in (c.0, listed_wants t c.0 c.1.0 c.1.1)
 
-  -- two that tell the same are the same
-  pub told_same : (P : Type 0) (b c : Bool) → Tells b P → Tells c P → b ≡ c
-  told_same P true true h k = refl
-  told_same P true false h k = absurd (k h)
-  told_same P false true h k = absurd (h k)
-  told_same P false false h k = refl
-
+module _ (K : Kind) (rows : List Row) (x : Readings) where
   as_function : (f g : ℕ → Bool) (ps : List (Piece Bool)) → ((u : ℕ) → f u ≡ g u) → Lists f ps → Lists g ps
   as_function f g [] e h = absurd h.0
   as_function f g (p ∷ ps) e h = (h.0, λ u. h.1 u ∙ e u)
