@@ -1,7 +1,6 @@
 -- Cells that are filled one by one with what stands where nothing was written.
-use Rattle.std.proofs.Common.{◌≡◌, ℕ, ◌+◌, ◌<◌, ◌⊎◌, inl, inr, List, [], ◌∷◌, ◌++◌, length, get_or, subst, sym, ◌∙◌, ap, refl, arith, length-append}
+use Rattle.std.proofs.Common.{◌≡◌, ℕ, ◌+◌, ◌<◌, ◌⊎◌, inl, inr, List, [], ◌∷◌, ◌++◌, get_or, ◌∙◌, ap, refl, arith, length-append}
 use Rattle.std.proofs.lemmas.List.{places}
-use Rattle.std.proofs.lemmas.Grind.{common_steps}
 use Rattle.compare.specs.Cells.{Blanks}
 
 module _ {C H : Type 0} (held : C → H) (blank : H) where
@@ -11,7 +10,7 @@ module _ {C H : Type 0} (held : C → H) (blank : H) where
   pub blanks_more : (n : ℕ) (cells : List C) (c : C) → Blanks held blank n cells → held c ≡ blank → Blanks held blank (n + 1) (cells ++ (c ∷ []))
   blanks_more n cells c h e = record {
     many = length-append cells (c ∷ []) ∙ ap (λ m. m + 1) h.many;
-    each = λ k d less. by k d (grind arith) ;
+    each = λ k d less. by k d (grind arith);
   }
     where
       by : (k : ℕ) (d : C) → (k < n) ⊎ (k ≡ n) → held (get_or (cells ++ (c ∷ [])) k d) ≡ blank

@@ -1,2 +1,3 @@
 mod Questions
 mod Blanks
+mod Found

@@ -3,3 +3,4 @@ pub mod Rooms
 pub mod Questions
 pub mod Entering
 pub mod Cells
+pub mod Found

@@ -1,9 +1,11 @@
 // Judging, held against the reference.
-ghost use Rattle.std.specs.Prelude.{◌≡◌, ℕ, ◌≤◌};
+ghost use Rattle.std.specs.Prelude.{◌≡◌, ℕ, ◌≤◌, length, Err, IfOk};
 ghost use Rattle.grades.specs.Kinds.{Tells};
 ghost use Rattle.rules.specs.Texts.{table_of};
 ghost use Rattle.meaning.specs.Marks.{Tests};
+ghost use Rattle.jobs.specs.Jobs.{state_of};
 ghost use Rattle.compare.specs.Questions.{Barred};
+ghost use Rattle.compare.specs.Found.{Judges, Needs, Verdict};
 
 use crate::cells::{Measured, begin_alike, blank_from, blanks, ends_of, hold, written};
 use crate::lists::row_list;
@@ -30,7 +32,9 @@ impl Question<'_, '_> {
     pub(crate) fn judge<G: Measured>(
         &self,
         cells: &mut [Piece<Range<G>>],
-    ) -> Result<Range<G>, JudgeFault> {
+    ) -> Result<Range<G>, JudgeFault>
+        ensures { Judges G.kind G.value (state_of self.now.job.now) (table_of self.now.rule.now) self.now.tick (length cells.old) result }
+    {
         judge::<G>(self.job, self.rule, self.tick, cells)
     }
 
@@ -39,7 +43,9 @@ impl Question<'_, '_> {
         &self,
         whole: &[Piece<Range<G>>],
         room: usize,
-    ) -> Result<(), Mismatch> {
+    ) -> Result<(), Mismatch>
+        ensures { IfOk result (λ u. Needs G.kind G.value (state_of self.now.job.now) (table_of self.now.rule.now) self.now.tick (length whole.now) room) }
+    {
         let used = whole.len();
         let mut cells = blanks::<Piece<Range<G>>>(self.heap, room)?;
         let answer = self.judge::<G>(cells.as_mut_slice());
@@ -54,7 +60,9 @@ impl Question<'_, '_> {
     }
 
     // The verdict, where all that is judged with room to spare, with just enough cells and with one less is as the reference has it.
-    pub fn check_judge<G: Measured>(&self, values: &Values) -> Result<Ends, Mismatch> {
+    pub fn check_judge<G: Measured>(&self, values: &Values) -> Result<Ends, Mismatch>
+        ensures { IfOk result (λ ends. Verdict G.kind G.value (state_of self.now.job.now) (table_of self.now.rule.now) self.now.tick G.number 2048 values.now ends) }
+    {
         let mut cells = blanks::<Piece<Range<G>>>(self.heap, ROW_CELLS)?;
         let Ok(range) = self.judge::<G>(cells.as_mut_slice()) else {
             return Err(Mismatch::Refusal);
@@ -86,7 +94,9 @@ impl Question<'_, '_> {
     }
 
     // A judgement that is turned down for another cause than the cells leaves them as they were.
-    pub fn check_bar<G: Measured>(&self, fault: JudgeFault) -> Result<(), Mismatch> {
+    pub fn check_bar<G: Measured>(&self, fault: JudgeFault) -> Result<(), Mismatch>
+        ensures { IfOk result (λ u. Judges G.kind G.value (state_of self.now.job.now) (table_of self.now.rule.now) self.now.tick 8 (Err fault)) }
+    {
         let mut cells = blanks::<Piece<Range<G>>>(self.heap, 8)?;
         let answer = self.judge::<G>(cells.as_mut_slice());
         ensure(answer.err() == Some(fault), Mismatch::Refusal)?;

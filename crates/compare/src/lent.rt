@@ -1,5 +1,5 @@
 // The cells that are lent to a marking.
-ghost use Rattle.std.specs.Prelude.{◌≡◌, length, option_map};
+ghost use Rattle.std.specs.Prelude.{◌≡◌, length, option_map, IfOk};
 ghost use Rattle.rules.specs.Texts.{table_of};
 ghost use Rattle.runs.specs.Conditions.{FirstFailing};
 ghost use Rattle.runs.specs.Calls.{MarkTurn};
@@ -7,7 +7,7 @@ ghost use Rattle.runs.specs.States.{readings_of};
 ghost use Rattle.jobs.specs.Jobs.{state_of};
 ghost use Rattle.judge.specs.Faults.{mark_number};
 ghost use Rattle.judge.specs.Answers.{mark_reply, MarkedCells};
-ghost use Rattle.compare.specs.Rooms.{cells_ask, written_in, tight_rooms};
+ghost use Rattle.compare.specs.Rooms.{cells_ask, written_in, tight_rooms, BlankRoom};
 
 use crate::cells::{Measured, begin_alike, blank_from, blanks, written};
 use crate::question::Question;
@@ -95,7 +95,10 @@ pub struct Lent<G: Drop> {
 }
 
 impl<G: Measured> Lent<G> {
-    pub fn blank(heap: Global, room: Room) -> Result<Lent<G>, AllocError> {
+    // So many cells of each kind, none of which was written.
+    pub fn blank(heap: Global, room: Room) -> Result<Lent<G>, AllocError>
+        ensures { IfOk result (λ lent. BlankRoom (λ p. record { start = p.start; value = record { lower = G.number p.value.lower; upper = G.number p.value.upper } }) G.Scale.grading room lent.rows.items lent.wants.items lent.marks.items) }
+    {
         let rows = blanks(heap, room.rows)?;
         let wants = blanks(heap, room.wants)?;
         let marks = blanks(heap, room.marks)?;
@@ -117,7 +120,7 @@ impl<G: Measured> Lent<G> {
     }
 
     // How much was written of blank cells.
-    pub fn used(&self) -> Room {
+    pub(crate) fn used(&self) -> Room {
         Room {
             rows: written(self.rows.as_slice()).len(),
             wants: written(self.wants.as_slice()).len(),
@@ -126,7 +129,7 @@ impl<G: Measured> Lent<G> {
     }
 
     // Whether so many cells are as in the whole lists.
-    pub fn begins(&self, whole: &Lent<G>, filled: Room) -> bool {
+    pub(crate) fn begins(&self, whole: &Lent<G>, filled: Room) -> bool {
         begin_alike(self.rows.as_slice(), whole.rows.as_slice(), filled.rows)
             && begin_alike(self.wants.as_slice(), whole.wants.as_slice(), filled.wants)
             && begin_alike(self.marks.as_slice(), whole.marks.as_slice(), filled.marks)
