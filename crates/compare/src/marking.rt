@@ -1,4 +1,10 @@
 // Marking, held against the reference.
+ghost use Rattle.std.specs.Prelude.{◌≡◌, ◌-◌, length, IfOk};
+ghost use Rattle.rules.specs.Texts.{table_of};
+ghost use Rattle.jobs.specs.Jobs.{state_of};
+ghost use Rattle.reference.specs.Tables.{value_at};
+ghost use Rattle.compare.specs.Found.{NeedsRoom, Found};
+
 use crate::cells::{Measured, ends_of, hold, written};
 use crate::judging::ROW_CELLS;
 use crate::lent::{Lent, Room};
@@ -33,7 +39,9 @@ impl<G: Measured> Whole<G> {
 
 impl Question<'_, '_> {
     // Marks with so many cells.
-    pub fn mark_in<G: Measured>(&self, whole: &Whole<G>, room: Room) -> Result<(), Mismatch> {
+    pub fn mark_in<G: Measured>(&self, whole: &Whole<G>, room: Room) -> Result<(), Mismatch>
+        ensures { IfOk result (λ u. NeedsRoom G.kind G.value (state_of self.now.job.now) (table_of self.now.rule.now) self.now.tick whole.now.used room) }
+    {
         let mut lent = Lent::<G>::blank(self.heap, room)?;
         let answer = lent.mark(self);
         let refusal = room.refusal(whole.used);
@@ -70,7 +78,10 @@ impl Question<'_, '_> {
         whole: &Whole<G>,
         marks: usize,
         values: &Values,
-    ) -> Result<(), Mismatch> {
+    ) -> Result<(), Mismatch>
+        ensures verdict { IfOk result (λ u. whole.now.verdict ≡ value_at values.now (length (table_of self.now.rule.now) - 1) self.now.tick) }
+        ensures marks { IfOk result (λ u. marks ≡ whole.now.used.marks) }
+    {
         let list = row_list(self.heap, self.rule.rows().len(), values)?;
         let written_rows = written(whole.lent.rows.as_slice());
         ensure(whole.verdict == self.verdict(values), Mismatch::Verdict)?;
@@ -81,7 +92,9 @@ impl Question<'_, '_> {
     }
 
     // The marking, where all that is marked with room to spare, with just enough cells and with one less of each kind is as the reference has it.
-    pub fn check_mark<G: Measured>(&self, values: &Values) -> Result<Whole<G>, Mismatch> {
+    pub fn check_mark<G: Measured>(&self, values: &Values) -> Result<Whole<G>, Mismatch>
+        ensures { IfOk result (λ whole. Found G.kind G.value (state_of self.now.job.now) (table_of self.now.rule.now) self.now.tick G.number (record { rows = 2048; wants = 4096; marks = 1024 }) values.now whole.verdict whole.lent.marks.items whole.used.marks) }
+    {
         let mut lent = Lent::<G>::blank(self.heap, AMPLE)?;
         let Ok(marking) = lent.mark(self) else {
             return Err(Mismatch::Refusal);
