@@ -7,7 +7,7 @@ ghost use Rattle.runs.specs.States.{readings_of};
 ghost use Rattle.jobs.specs.Jobs.{state_of};
 ghost use Rattle.judge.specs.Faults.{mark_number};
 ghost use Rattle.judge.specs.Answers.{mark_reply, MarkedCells};
-ghost use Rattle.compare.specs.Rooms.{cells_ask, written_in, tight_rooms, BlankRoom};
+ghost use Rattle.compare.specs.Rooms.{cells_ask, written_in, tight_rooms, graded, BlankRoom, written_room, unwritten_room, alike_room};
 
 use crate::cells::{Measured, begin_alike, blank_from, blanks, written};
 use crate::question::Question;
@@ -97,7 +97,7 @@ pub struct Lent<G: Drop> {
 impl<G: Measured> Lent<G> {
     // So many cells of each kind, none of which was written.
     pub fn blank(heap: Global, room: Room) -> Result<Lent<G>, AllocError>
-        ensures { IfOk result (λ lent. BlankRoom (λ p. record { start = p.start; value = record { lower = G.number p.value.lower; upper = G.number p.value.upper } }) G.Scale.grading room lent.rows.items lent.wants.items lent.marks.items) }
+        ensures { IfOk result (λ lent. BlankRoom (graded G.number) G.Scale.grading room lent.rows.items lent.wants.items lent.marks.items) }
     {
         let rows = blanks(heap, room.rows)?;
         let wants = blanks(heap, room.wants)?;
@@ -120,7 +120,9 @@ impl<G: Measured> Lent<G> {
     }
 
     // How much was written of blank cells.
-    pub(crate) fn used(&self) -> Room {
+    pub(crate) fn used(&self) -> Room
+        ensures { result ≡ written_room (graded G.number) G.Scale.grading self.now.rows.items self.now.wants.items self.now.marks.items }
+    {
         Room {
             rows: written(self.rows.as_slice()).len(),
             wants: written(self.wants.as_slice()).len(),
@@ -129,14 +131,18 @@ impl<G: Measured> Lent<G> {
     }
 
     // Whether so many cells are as in the whole lists.
-    pub(crate) fn begins(&self, whole: &Lent<G>, filled: Room) -> bool {
+    pub(crate) fn begins(&self, whole: &Lent<G>, filled: Room) -> bool
+        ensures { result ≡ alike_room (graded G.number) G.Scale.grading filled self.now.rows.items self.now.wants.items self.now.marks.items whole.now.rows.items whole.now.wants.items whole.now.marks.items }
+    {
         begin_alike(self.rows.as_slice(), whole.rows.as_slice(), filled.rows)
             && begin_alike(self.wants.as_slice(), whole.wants.as_slice(), filled.wants)
             && begin_alike(self.marks.as_slice(), whole.marks.as_slice(), filled.marks)
     }
 
     // Whether no cell behind these was written.
-    pub fn blank_behind(&self, used: Room) -> bool {
+    pub fn blank_behind(&self, used: Room) -> bool
+        ensures { result ≡ unwritten_room (graded G.number) G.Scale.grading used self.now.rows.items self.now.wants.items self.now.marks.items }
+    {
         blank_from(self.rows.as_slice(), used.rows)
             && blank_from(self.wants.as_slice(), used.wants)
             && blank_from(self.marks.as_slice(), used.marks)

@@ -3,6 +3,7 @@ ghost use Rattle.std.specs.Prelude.{◌≡◌, ◌-◌, length, IfOk};
 ghost use Rattle.rules.specs.Texts.{table_of};
 ghost use Rattle.jobs.specs.Jobs.{state_of};
 ghost use Rattle.reference.specs.Tables.{value_at};
+ghost use Rattle.compare.specs.Rooms.{written_marks};
 ghost use Rattle.compare.specs.Found.{NeedsRoom, Found};
 
 use crate::cells::{Measured, ends_of, hold, written};
@@ -32,7 +33,10 @@ pub struct Whole<G: Drop> {
 }
 
 impl<G: Measured> Whole<G> {
-    pub fn marks(&self) -> &[Mark] {
+    // The marks that were written.
+    pub fn marks(&self) -> &[Mark]
+        ensures { result.now ≡ written_marks self.now.lent.marks.items }
+    {
         written(self.lent.marks.as_slice())
     }
 }

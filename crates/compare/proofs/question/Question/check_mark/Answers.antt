@@ -15,8 +15,8 @@ loop-room-init g c =
       marking = c.in-Ok.marking;
       marked =
           subst (λ r. turn r 4096 1024) room.rows.many
-            (subst (λ w. turn (length lent.rows.items) w 1024) room.wants.many
-              (subst (λ m. turn (length lent.rows.items) (length lent.wants.items) m) room.marks.many c.in-Ok.ensures.turn));
+          (subst (λ w. turn (length lent.rows.items) w 1024) room.wants.many
+          (subst (λ m. turn (length lent.rows.items) (length lent.wants.items) m) room.marks.many c.in-Ok.ensures.turn));
       is = c.ends_of.ensures;
       agrees = c.in_ok-compare_marking.ensures.verdict;
       all = c.in_ok-compare_marking.ensures.marks;
