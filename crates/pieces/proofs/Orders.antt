@@ -1,10 +1,10 @@
 -- Ordered lists: the test step by step, and what an index found by a search says.
-use Rattle.std.proofs.Common.{◌≡◌, ℕ, zero, suc, ◌+◌, ◌-◌, ◌<◌, ◌≤◌, Bool, true, false, cond, eqb, ltb, leb, List, [], ◌∷◌, length, get_or, drop, Some, None, Option, sym, refl, ap, ◌∙◌, subst, arith, ltb-true, le-ltb, lt-ltb, eq-eqb, eqb-true, le-leb}
+use Rattle.std.proofs.Common.{◌≡◌, ℕ, zero, suc, ◌+◌, ◌-◌, ◌<◌, ◌≤◌, Bool, true, false, cond, eqb, ltb, leb, List, [], ◌∷◌, length, get_or, Some, None, Option, sym, refl, ap, ◌∙◌, subst, arith, ltb-true, eqb-true, le-leb, leb-true}
 use borrow.Author.Tests.{lt-leb, clash}
-use Rattle.std.proofs.lemmas.List.{drop_more}
+use Rattle.std.proofs.lemmas.Bool.{leb-false}
 use Rattle.std.specs.List.Sorted.{IsNonDecreasingBy, IsPartitionPoint}
 use Rattle.pieces.specs.declared.piece.Piece.{Piece}
-use Rattle.pieces.specs.Pieces.{at_from, next_from, ordered, ascending, Found}
+use Rattle.pieces.specs.Pieces.{at_from, next_from, ordered, ascending, Found, Holds}
 
 cond-true : (b x : Bool) → cond b x false ≡ true → (b ≡ true) × (x ≡ true)
 cond-true true x e = (refl, e)
@@ -37,10 +37,11 @@ module _ {V : Type 0} where
       let both = cond-true (eqb p.start 0) (ascending 0 ps) e in
       rises_from p ps (subst (λ s. ascending s ps ≡ true) (sym (eqb-true p.start 0 both.0)) both.1)
 
-  abbrev pub NextIs : List (Piece V) → ℕ → Piece V → Option ℕ → Type 0
-  NextIs xs i d o = (suc i < length xs → o ≡ Some (get_or xs (suc i) d).start) × (length xs ≤ suc i → o ≡ None)
+  -- o is the start of the piece at k, and none behind the last piece
+  abbrev pub StartIs : List (Piece V) → ℕ → Piece V → Option ℕ → Type 0
+  StartIs xs k d o = (k < length xs → o ≡ Some (get_or xs k d).start) × (length xs ≤ k → o ≡ None)
 
-  found_at : (p : Piece V) (ps : List (Piece V)) (i t : ℕ) (d : Piece V) (o : Option ℕ) → ascending p.start ps ≡ true → i < length (p ∷ ps) → (get_or (p ∷ ps) i d).start ≤ t → (suc i < length (p ∷ ps) → t < (get_or (p ∷ ps) (suc i) d).start) → NextIs (p ∷ ps) i d o → Found (p ∷ ps) t (get_or (p ∷ ps) i d).value o
+  found_at : (p : Piece V) (ps : List (Piece V)) (i t : ℕ) (d : Piece V) (o : Option ℕ) → ascending p.start ps ≡ true → i < length (p ∷ ps) → (get_or (p ∷ ps) i d).start ≤ t → (suc i < length (p ∷ ps) → t < (get_or (p ∷ ps) (suc i) d).start) → StartIs (p ∷ ps) (suc i) d o → Found (p ∷ ps) t (get_or (p ∷ ps) i d).value o
   found_at p [] zero t d o a w l u n = (refl, n.1 (omega arith))
   found_at p (q ∷ qs) zero t d o a w l u n =
       let e : leb q.start t ≡ false = lt-leb q.start t (u (omega arith)) in
@@ -53,11 +54,14 @@ module _ {V : Type 0} where
       let r = found_at q qs i t d o both.1 (omega arith) l (λ h. u (omega arith)) (λ h. n.0 (omega arith), λ h. n.1 (omega arith)) in
       (r.0 ∙ sym (ap (λ (b : Bool). cond b (at_from q.value qs t) p.value) e), r.1 ∙ sym (ap (λ (b : Bool). cond b (next_from qs t) (Some q.start)) e))
 
-  pub found : (xs : List (Piece V)) (i t : ℕ) (d : Piece V) (o : Option ℕ) → ordered xs ≡ true → i < length xs → (get_or xs i d).start ≤ t → (suc i < length xs → t < (get_or xs (suc i) d).start) → NextIs xs i d o → Found xs t (get_or xs i d).value o
-  found [] i t d o e w l u n = absurd (clash e)
-  found (p ∷ ps) i t d o e w l u n =
+  -- of the piece that holds t: its value is in force, and the next change is where the one behind it starts
+  pub found : (xs : List (Piece V)) (t k : ℕ) (d : Piece V) (o : Option ℕ) → ordered xs ≡ true → Holds xs t k → StartIs xs (k + 1) d o → Found xs t (get_or xs k d).value o
+  found [] t k d o e h n = absurd (clash e)
+  found (p ∷ ps) t k d o e h n =
       let both = cond-true (eqb p.start 0) (ascending 0 ps) e in
-      found_at p ps i t d o (subst (λ s. ascending s ps ≡ true) (sym (eqb-true p.start 0 both.0)) both.1) w l u n
+      let z : k + 1 ≡ suc k = omega arith in
+      found_at p ps k t d o (subst (λ s. ascending s ps ≡ true) (sym (eqb-true p.start 0 both.0)) both.1) h.within (h.from d)
+      (subst (λ j. j < length (p ∷ ps) → t < (get_or (p ∷ ps) j d).start) z (h.behind d)) (subst (λ j. StartIs (p ∷ ps) j d o) z n)
 
   -- so many pieces start at t or before, and the others behind it
   abbrev pub Splits : List (Piece V) → ℕ → ℕ → Type 0
@@ -70,11 +74,12 @@ module _ {V : Type 0} where
       absurd (clash (sym (s.1 0 p (omega arith) (omega arith)) ∙ le-leb p.start t (omega arith)))
   splits_some (p ∷ ps) t (suc n) e s = omega arith
 
-  -- the last piece that starts at t or before is the one in force, and the next change is where the one behind it starts
-  pub found_split : (xs : List (Piece V)) (t n : ℕ) (d : Piece V) (o : Option ℕ) → ordered xs ≡ true → 1 ≤ n → n ≤ length xs →
-      (get_or xs (n - 1) d).start ≤ t → (n < length xs → t < (get_or xs n d).start) → (n < length xs → o ≡ Some (get_or xs n d).start) → (length xs ≤ n → o ≡ None) → Found xs t (get_or xs (n - 1) d).value o
-  found_split xs t zero d o e s l w h u v = absurd (omega (arith, s))
-  found_split xs t (suc m) d o e s l w h u v =
-      let z : suc m - 1 ≡ m = omega arith in
-      subst (λ k. Found xs t (get_or xs k d).value o) (sym z)
-      (found xs m t d o e (omega arith) (subst (λ k. (get_or xs k d).start ≤ t) z w) h (u, v))
+  -- the last of them holds t
+  pub splits_holds : (xs : List (Piece V)) (t n : ℕ) → ordered xs ≡ true → n ≤ length xs → Splits xs t n → Holds xs t (n - 1)
+  splits_holds xs t n e l s =
+      let some = splits_some xs t n e s in
+      record {
+        within = omega (arith, some);
+        from = λ d. leb-true (get_or xs (n - 1) d).start t (s.0 (n - 1) d (omega (arith, some)) (omega (arith, some)));
+        behind = λ d h. leb-false (get_or xs (n - 1 + 1) d).start t (s.1 (n - 1 + 1) d (omega arith) h);
+      }

@@ -1,5 +1,5 @@
 -- Piece lists, the function of ticks that one stands for, and the one list that is kept of such a function.
-use Rattle.std.specs.Prelude.{◌≡◌, ℕ, ◌<◌, Bool, true, false, cond, List, [], ◌∷◌, Some, None, Option, ◌==◌, ◌≢◌, nat_le, nat_lt}
+use Rattle.std.specs.Prelude.{◌≡◌, ℕ, ◌+◌, ◌<◌, ◌≤◌, Bool, true, false, cond, List, [], ◌∷◌, Some, None, Option, ◌==◌, ◌≢◌, nat_le, nat_lt, length, slice_index_or}
 use Rattle.std.specs.Coded.{×_prop, →_prop, Unit-prop, le_prop, Coded-set, coded_ℕ}
 use borrow.Author.Tests.{clash}
 use Rattle.pieces.specs.declared.piece.Piece.{Piece}
@@ -43,6 +43,12 @@ module _ {C : Type 0} where
   abbrev pub Found : List (Piece C) → ℕ → C → Option ℕ → Type 0
   Found [] t v o = ⊥
   Found (p ∷ ps) t v o = (v ≡ at_from p.value ps t) × (o ≡ next_from ps t)
+
+  -- the piece at k is the one that holds t: it starts at t or before, and the piece behind it, if there is one, starts after t
+  pub record Holds (ps : List (Piece C)) (t k : ℕ) : Type 0 where
+    pub within : k < length ps
+    pub from : (d : Piece C) → (slice_index_or ps k d).start ≤ t
+    pub behind : (d : Piece C) → k + 1 < length ps → t < (slice_index_or ps (k + 1) d).start
 
   -- starts rise, and neighbours differ
   abbrev pub Rising : Piece C → List (Piece C) → Type 0

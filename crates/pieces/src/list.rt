@@ -1,6 +1,6 @@
 // Piece lists over a slice that someone else holds.
-ghost use Rattle.std.specs.Prelude.{◌≡◌, ℕ, ◌<◌, ◌≤◌, true, false, length, MatchOption, slice_index_or};
-ghost use Rattle.pieces.specs.Pieces.{ordered, Found};
+ghost use Rattle.std.specs.Prelude.{◌≡◌, ◌-◌, ◌≤◌, true, false, MatchOption, IsTrue, ◌↔◌};
+ghost use Rattle.pieces.specs.Pieces.{ordered, Found, Holds};
 
 use crate::piece::Piece;
 
@@ -31,15 +31,36 @@ fn is_ordered<V: Copy>(pieces: &[Piece<V>]) -> bool
     true
 }
 
-// How many pieces start at t or before.
+// How many pieces start at t or before: the last of them holds t.
 fn started<V: Copy>(pieces: &[Piece<V>], t: u64) -> usize
     requires { ordered pieces.now ≡ true }
     ensures some { 1 ≤ result }
-    ensures all { result ≤ length pieces.now }
-    ensures before { (k : ℕ) (d : Piece V) → k < result → (slice_index_or pieces.now k d).start ≤ t }
-    ensures behind { (k : ℕ) (d : Piece V) → result ≤ k → k < length pieces.now → t < (slice_index_or pieces.now k d).start }
+    ensures last { Holds pieces.now t (result - 1) }
 {
     pieces.partition_point(|piece| piece.start as u64 <= t)
+}
+
+// Whether it is the piece at k that holds t.
+fn holds<V: Copy>(pieces: &[Piece<V>], t: u64, k: usize) -> bool
+    ensures { IsTrue result ↔ Holds pieces.now t k }
+{
+    let count = pieces.len();
+    k < count && pieces[k].start as u64 <= t && (k + 1 == count || t < pieces[k + 1].start as u64)
+}
+
+// The place of the piece that holds t; it is often near or the one behind it.
+fn place_near<V: Copy>(pieces: &[Piece<V>], t: u64, near: usize) -> usize
+    requires { ordered pieces.now ≡ true }
+    ensures { Holds pieces.now t result }
+{
+    let behind = near.saturating_add(1);
+    if holds(pieces, t, near) {
+        near
+    } else if holds(pieces, t, behind) {
+        behind
+    } else {
+        started(pieces, t) - 1
+    }
 }
 
 impl<'a, V: Copy> PieceList<'a, V> {
@@ -62,5 +83,16 @@ impl<'a, V: Copy> PieceList<'a, V> {
         let count = started(pieces, t);
         let next = pieces.get(count).map(|piece| piece.start);
         (pieces[count - 1].value, next)
+    }
+
+    // The same, with the place of the piece; it tries near and the place behind it before it searches.
+    pub fn lookup_near(&self, t: u64, near: usize) -> (V, Option<u32>, usize)
+        ensures found { Found self.now.pieces.now t result.0 result.1 }
+        ensures place { Holds self.now.pieces.now t result.2 }
+    {
+        let pieces = self.pieces;
+        let at = place_near(pieces, t, near);
+        let next = pieces.get(at + 1).map(|piece| piece.start);
+        (pieces[at].value, next, at)
     }
 }
