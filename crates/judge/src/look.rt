@@ -13,3 +13,14 @@ pub(crate) fn look<G: Grade>(list: &PieceList<'_, Range<G>>, t: u64) -> (Range<G
 {
     list.lookup(t)
 }
+
+// The same in a walk, which passes on the place of the last piece. Nothing is asked of near: the answer is the same whatever it is.
+pub(crate) fn look_near<G: Grade>(
+    list: &PieceList<'_, Range<G>>,
+    t: u64,
+    near: usize,
+) -> (Range<G>, Option<u32>, usize)
+    ensures { Steady (heard G.kind G.value list.now.pieces.now) t (worth G.kind G.value result.0) result.1 }
+{
+    list.lookup_near(t, near)
+}

@@ -6,7 +6,7 @@ ghost use Rattle.pieces.specs.Ticks.{Steady};
 ghost use Rattle.meaning.specs.Values.{over};
 ghost use Rattle.judge.specs.Signals.{heard, op, Stays};
 
-use crate::look::look;
+use crate::look::{look, look_near};
 use grades::grade::Grade;
 use grades::range::Range;
 use pieces::list::PieceList;
@@ -62,16 +62,17 @@ pub(crate) fn gather<G: Grade>(
     ensures all { worth G.kind G.value result.0 ≡ over (op G.kind way) (heard G.kind G.value child.now.pieces.now) first (end - first) }
     ensures next { Stays (heard G.kind G.value child.now.pieces.now) end result.1 }
 {
-    let (range, after) = look(child, first);
+    let (range, after, mut near) = look_near(child, first, 0);
     let mut all = range;
     let mut next = after;
     while let Some(u) = next {
         if u as u64 > end {
             break;
         }
-        let (range, after) = look(child, u as u64);
+        let (range, after, place) = look_near(child, u as u64, near);
         all = combine(way, all, range);
         next = after;
+        near = place;
     }
     (all, next)
 }

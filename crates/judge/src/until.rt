@@ -6,7 +6,7 @@ ghost use Rattle.pieces.specs.Ticks.{Steady};
 ghost use Rattle.meaning.specs.Values.{over};
 ghost use Rattle.judge.specs.Signals.{goal, Stays};
 
-use crate::look::look;
+use crate::look::{look, look_near};
 use crate::steps::{Way, gather};
 use grades::grade::Grade;
 use grades::range::Range;
@@ -15,7 +15,7 @@ use pieces::ticks::{first_of, moved_back};
 
 // The upper, over the ticks u from first to end, of right at u with left at every tick from t to u;
 // a tick up to which that stays at first, and one up to which it stays at end.
-// One walk over the pieces of both lists, with the lower of left so far. The two stay two parameters, as a row has two children.
+// One walk over the pieces of both lists, with the lower of left so far and the place in each list. The two stay two parameters, as a row has two children.
 fn gather_until<G: Grade>(
     left: &PieceList<'_, Range<G>>,
     right: &PieceList<'_, Range<G>>,
@@ -30,7 +30,8 @@ fn gather_until<G: Grade>(
     ensures next { Stays (goal G.kind G.value left.now.pieces.now right.now.pieces.now t) end result.2 }
 {
     let (run, more) = gather(Way::Lower, left, t, first);
-    let (aim, after) = look(right, first);
+    let (aim, after, mut near_right) = look_near(right, first, 0);
+    let mut near_left = 0;
     let leaves = first_of(more, after);
     let mut low = run;
     let mut all = aim.lower(run);
@@ -39,12 +40,14 @@ fn gather_until<G: Grade>(
         if u as u64 > end {
             break;
         }
-        let (here, m) = look(left, u as u64);
-        let (aim, n) = look(right, u as u64);
+        let (here, m, place_left) = look_near(left, u as u64, near_left);
+        let (aim, n, place_right) = look_near(right, u as u64, near_right);
         low = low.lower(here);
         let both = aim.lower(low);
         all = all.upper(both);
         next = first_of(m, n);
+        near_left = place_left;
+        near_right = place_right;
     }
     (all, leaves, next)
 }

@@ -11,7 +11,7 @@ loop-next-init g c =
     let K = g.G.Grade.kind in (
       c.args.first,
       gathering_first (joins g.met.G.Grade.lawful c.args.way) (heard K g.G.Grade.value c.args.child.now.pieces.now) c.args.first c.args.end
-          (worth K g.G.Grade.value c.look-range.result.0) c.look-range.result.1 c.requires c.look-range.ensures,
+          (worth K g.G.Grade.value c.look_near-range.result.0) c.look_near-range.result.1 c.requires c.look_near-range.ensures,
     )
 
 pub loop-next-preserved : goal.loop-next-preserved
@@ -21,7 +21,7 @@ loop-next-preserved g c =
     let i = c.loop-next.invariant in (
       c.in-Some.u,
       gathering_more (joins g.met.G.Grade.lawful c.args.way) (heard K g.G.Grade.value c.args.child.now.pieces.now) c.args.first c.args.end i.0 c.loop-next.next (W c.loop-next.all) i.1
-          c.in-Some.u (W c.look-range-in-Some.result.0) (W c.combine-all.result) c.look-range-in-Some.result.1 c.in-Some.is c.if-u-end.false c.combine-all.ensures c.look-range-in-Some.ensures,
+          c.in-Some.u (W c.look_near-range-in-Some.result.0) (W c.combine-all.result) c.look_near-range-in-Some.result.1 c.in-Some.is c.if-u-end.false c.combine-all.ensures c.look_near-range-in-Some.ensures,
     )
 
 pub returns : goal.returns

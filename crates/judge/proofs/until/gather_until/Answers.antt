@@ -13,8 +13,8 @@ loop-next-init g c =
     let K = g.G.Grade.kind in
     let W = worth K g.G.Grade.value in
     walking_first K (heard K g.G.Grade.value c.args.left.now.pieces.now) (heard K g.G.Grade.value c.args.right.now.pieces.now) c.args.t g.met.G.Grade.lawful c.args.first c.args.end
-    (W c.gather-more.result.0) (W c.look-after.result.0) (W c.lower-all.result) c.gather-more.result.1 c.look-after.result.1 c.first_of-leaves.result
-    c.requires.start c.gather-more.ensures.all c.gather-more.ensures.next c.look-after.ensures c.first_of-leaves.ensures c.requires.window c.lower-all.ensures
+    (W c.gather-more.result.0) (W c.look_near-after.result.0) (W c.lower-all.result) c.gather-more.result.1 c.look_near-after.result.1 c.first_of-leaves.result
+    c.requires.start c.gather-more.ensures.all c.gather-more.ensures.next c.look_near-after.ensures c.first_of-leaves.ensures c.requires.window c.lower-all.ensures
 
 pub loop-next-preserved : goal.loop-next-preserved
 loop-next-preserved g c =
@@ -22,8 +22,8 @@ loop-next-preserved g c =
     let W = worth K g.G.Grade.value in
     walking_more K (heard K g.G.Grade.value c.args.left.now.pieces.now) (heard K g.G.Grade.value c.args.right.now.pieces.now) c.args.t g.met.G.Grade.lawful c.args.first c.args.end
     c.loop-next.next (W c.loop-next.all) (W c.loop-next.low) c.requires.start c.loop-next.invariant
-    c.in-Some.u (W c.look-m.result.0) (W c.look-n.result.0) (W c.lower-low.result) (W c.lower-both.result) (W c.upper-all.result) c.look-m.result.1 c.look-n.result.1 c.first_of-next.result
-    c.in-Some.is c.if-u-end.false c.look-m.ensures c.look-n.ensures c.first_of-next.ensures c.lower-low.ensures c.lower-both.ensures c.upper-all.ensures
+    c.in-Some.u (W c.look_near-m.result.0) (W c.look_near-n.result.0) (W c.lower-low.result) (W c.lower-both.result) (W c.upper-all.result) c.look_near-m.result.1 c.look_near-n.result.1 c.first_of-next.result
+    c.in-Some.is c.if-u-end.false c.look_near-m.ensures c.look_near-n.ensures c.first_of-next.ensures c.lower-low.ensures c.lower-both.ensures c.upper-all.ensures
 
 pub returns : goal.returns
 returns g c =
@@ -42,7 +42,7 @@ returns g c =
     let w = subst (λ o. Walking K l r t s e o all (W c.loop-next.low)) (sym same) c.loop-next.invariant in
     record {
       all = gathering_whole (joins L Upper) (aims K l r t) s e w.at next all w.gathered c.requires.window late;
-      leaves = walking_leaves K l r t L s e (W c.gather-more.result.0) (W c.look-after.result.0) (W c.lower-all.result) c.gather-more.result.1 c.look-after.result.1 c.first_of-leaves.result
-          c.requires.start c.gather-more.ensures.all c.gather-more.ensures.next c.look-after.ensures c.first_of-leaves.ensures;
+      leaves = walking_leaves K l r t L s e (W c.gather-more.result.0) (W c.look_near-after.result.0) (W c.lower-all.result) c.gather-more.result.1 c.look_near-after.result.1 c.first_of-leaves.result
+          c.requires.start c.gather-more.ensures.all c.gather-more.ensures.next c.look_near-after.ensures c.first_of-leaves.ensures;
       next = gathering_stays (joins L Upper) (aims K l r t) s e w.at next all w.gathered late;
     }
