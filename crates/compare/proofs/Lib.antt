@@ -1,3 +1,4 @@
 mod Questions
 mod Blanks
 mod Found
+mod Ticks

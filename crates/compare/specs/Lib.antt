@@ -4,3 +4,4 @@ pub mod Questions
 pub mod Entering
 pub mod Cells
 pub mod Found
+pub mod Agreement
