@@ -39,6 +39,7 @@ use Rattle.cases.specs.Headings.{Opened}
 use Rattle.cases.specs.Steps.{Sized, Stepped}
 use Rattle.cases.proofs.OneReading.{one_opening, one_step}
 use Rattle.case_lines.specs.Leaves.{Contents, holds, level, Judges, MarksIn, TickLeaves, no_truth, no_margin, marked, FieldLeaves, enters, ticks, FieldsLeave, ended, refused, does, LinesLie, too_long, no_heading, carried, OneLeaving}
+use Rattle.case_lines.proofs.OneListing.{entry_tick, same_entry, same_tick}
 
 ok_err : {A E : Type 0} (x : A) (e : E) → ◌≡◌ {A = Result A E} (Ok x) (Err e) → ⊥
 ok_err x e h = let z : ◌≡◌ {A = ℕ} 0 1 = cc in omega arith
@@ -208,15 +209,6 @@ module _ (rows : List Row) (s : State) (t : ℕ) where
       let one = marks_one x a.truths b.truths before.wants a.wants b.wants before.marks a.marks b.marks r z h
       (subst (λ (c : List (Piece (Range Truth))). MarksIn rows s t c b.truths before.wants b.wants before.marks b.marks z) same g) in
       λ i. record { truths = one.0 i; margins = gaps i; wants = one.1 i; marks = one.2 i }
-
-entry_tick : (e : Entry) (t : ℕ) → entry e ≡ tick t → ⊥
-entry_tick e t h = let z : ◌≡◌ {A = ℕ} 0 1 = cc in omega arith
-
-same_entry : (e f : Entry) → entry e ≡ entry f → e ≡ f
-same_entry e f h = cc
-
-same_tick : (t u : ℕ) → tick t ≡ tick u → t ≡ u
-same_tick t u h = cc
 
 module _ (rows : List Row) where
   -- a field leaves one state, and one thing in the cells

@@ -57,13 +57,13 @@ mark_one K s rows t c w m (Err i) (Err j) h k = ap (λ (v : ℕ). Err v) (same_s
 told : (t : ℕ) {p o : Span truths.Value} {q z : Span margins.Value} {x y : Marking truths} → p ≡ o → q ≡ z → x ≡ y → verdict_line t (outcome_of_lem p) q.low.number q.high.number (length x.marks) ++ mark_lines x.marks ≡ verdict_line t (outcome_of_lem o) z.low.number z.high.number (length y.marks) ++ mark_lines y.marks
 told t e f g = λ i. verdict_line t (outcome_of_lem (e i)) (f i).low.number (f i).high.number (length (g i).marks) ++ mark_lines (g i).marks
 
-entry_tick : (e : Entry) (t : ℕ) → entry e ≡ tick t → ⊥
+pub entry_tick : (e : Entry) (t : ℕ) → entry e ≡ tick t → ⊥
 entry_tick e t h = let z : ◌≡◌ {A = ℕ} 0 1 = cc in omega arith
 
-same_entry : (e f : Entry) → entry e ≡ entry f → e ≡ f
+pub same_entry : (e f : Entry) → entry e ≡ entry f → e ≡ f
 same_entry e f h = cc
 
-same_tick : (t u : ℕ) → tick t ≡ tick u → t ≡ u
+pub same_tick : (t u : ℕ) → tick t ≡ tick u → t ≡ u
 same_tick t u h = cc
 
 step_apart : (o : Option Stepped) (e : CaseRefusal) → ◌≡◌ {A = Result (Option Stepped) CaseRefusal} (Ok o) (Err e) → ⊥
