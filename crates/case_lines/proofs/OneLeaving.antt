@@ -32,14 +32,13 @@ use Rattle.judge.specs.Answers.{RefusedCells}
 use Rattle.judge.specs.Judges.{Complete, CutShort}
 use Rattle.judge.specs.Markings.{BeginsWith, RunsOut, WantsWritten, MarksWritten}
 use Rattle.judge.proofs.Pinned.{row_lists_one}
-use Rattle.cases.specs.declared.fault.CaseRefusal.{CaseRefusal}
 use Rattle.cases.specs.declared.field.Entry.{Entry}
-use Rattle.cases.specs.Contents.{Item, entry, tick}
+use Rattle.cases.specs.Contents.{Item}
 use Rattle.cases.specs.Headings.{Opened}
-use Rattle.cases.specs.Steps.{Sized, Stepped}
+use Rattle.cases.specs.Steps.{Stepped}
 use Rattle.cases.proofs.OneReading.{one_opening, one_step}
 use Rattle.case_lines.specs.Leaves.{Contents, holds, level, Judges, MarksIn, TickLeaves, no_truth, no_margin, marked, FieldLeaves, enters, ticks, FieldsLeave, ended, refused, does, LinesLie, too_long, no_heading, carried, OneLeaving}
-use Rattle.case_lines.proofs.OneListing.{entry_tick, same_entry, same_tick}
+use Rattle.case_lines.proofs.OneListing.{entry_tick, same_entry, same_tick, sized_one}
 
 ok_err : {A E : Type 0} (x : A) (e : E) → ◌≡◌ {A = Result A E} (Ok x) (Err e) → ⊥
 ok_err x e h = let z : ◌≡◌ {A = ℕ} 0 1 = cc in omega arith
@@ -241,17 +240,14 @@ module _ (rows : List Row) where
 untouched : (before after : List (Piece Reading)) → after ≡ before → LinesLie [] before after
 untouched before after e = record { each = λ k h. absurd (omega (arith, h)); behind = ap (drop (64 * length {A = List (Piece Reading)} [])) e }
 
-sized_apart : (case : List ℕ) (e : CaseRefusal) → Sized case (Ok tt) → Sized case (Err e) → ⊥
-sized_apart case e h g = omega (arith, h, g.0)
-
 pub one_leaving : OneLeaving
 one_leaving case pieces p q before a b (too_long x s e c) (too_long y t f d) = (c ∙ sym d, ([], untouched pieces p e, untouched pieces q f))
-one_leaving case pieces p q before a b (too_long x s e c) (no_heading y t o f d) = absurd (sized_apart case x t s)
-one_leaving case pieces p q before a b (too_long x s e c) (carried o z t h l k) = absurd (sized_apart case x t s)
-one_leaving case pieces p q before a b (no_heading x s o e c) (too_long y t f d) = absurd (sized_apart case y s t)
+one_leaving case pieces p q before a b (too_long x s e c) (no_heading y t o f d) = absurd (sized_one case x t s)
+one_leaving case pieces p q before a b (too_long x s e c) (carried o z t h l k) = absurd (sized_one case x t s)
+one_leaving case pieces p q before a b (no_heading x s o e c) (too_long y t f d) = absurd (sized_one case y s t)
 one_leaving case pieces p q before a b (no_heading x s o e c) (no_heading y t h f d) = (c ∙ sym d, ([], untouched pieces p e, untouched pieces q f))
 one_leaving case pieces p q before a b (no_heading x s h e c) (carried o z t g l k) = absurd (ok_err o x (one_opening 1 [] case (Ok o) (Err x) g h))
-one_leaving case pieces p q before a b (carried o z s g l k) (too_long y t f d) = absurd (sized_apart case y s t)
+one_leaving case pieces p q before a b (carried o z s g l k) (too_long y t f d) = absurd (sized_one case y s t)
 one_leaving case pieces p q before a b (carried o z s g l k) (no_heading y t h f d) = absurd (ok_err o y (one_opening 1 [] case (Ok o) (Err y) g h))
 one_leaving case pieces p q before a b (carried o z s g l k) (carried i y t h m j) =
     let same : i ≡ o = same_ok i o (one_opening 1 [] case (Ok i) (Ok o) h g) in

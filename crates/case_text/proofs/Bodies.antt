@@ -1,10 +1,9 @@
 -- The bytes of fields: an entry's body, and a field behind others.
-use Rattle.std.proofs.Common.{◌≡◌, ℕ, ◌/◌, ◌%◌, ◌<◌, List, [], ◌∷◌, ◌++◌, length, get_or, ℤ, pos, negsuc, sym, refl, ap, ◌∙◌, subst, arith, w32, SFits, of_z}
-use Rattle.std.proofs.lemmas.List.{append_assoc}
+use Rattle.std.proofs.Common.{◌≡◌, ℕ, ◌/◌, ◌%◌, ◌<◌, List, [], ◌∷◌, get_or, ℤ, pos, negsuc, sym, refl, ap, ◌∙◌, subst, arith, w32, SFits, of_z}
 use Rattle.std.proofs.lemmas.Int.{ints}
 use Rattle.cases.specs.declared.field.Entry.{Entry}
 use Rattle.cases.specs.Contents.{Says, entry}
-use Rattle.cases.specs.Laws.{four_bytes, bits_of, Fits32, packed}
+use Rattle.cases.specs.Laws.{four_bytes, bits_of, Fits32}
 use Rattle.cases.proofs.Packing.{entries}
 
 abbrev pub big : ℕ → List ℕ

@@ -1,19 +1,15 @@
 -- Bytes are read back in one way only.
-use Rattle.std.proofs.Common.{◌≡◌, ℕ, List, [], ◌∷◌, length, sym, ap, ◌∙◌, subst, arith}
-use Rattle.cases.specs.Fields.{Leads}
+use Rattle.std.proofs.Common.{◌≡◌, ℕ, List, ◌∷◌, sym, ◌∙◌, subst}
 use Rattle.cases.specs.Contents.{Says}
-use Rattle.cases.proofs.OneReading.{one_field, one_item}
+use Rattle.cases.proofs.OneReading.{one_field, one_item, nothing_leads}
 use Rattle.case_text.specs.Packs.{ReadsBack}
 use Rattle.case_text.specs.Packs as back
 use Rattle.case_text.specs.Laws.{OneReadingBack}
 
-no_field : (bytes : List ℕ) {tag : ℕ} {body rest : List ℕ} → bytes ≡ [] → Leads bytes tag body rest → ⊥
-no_field bytes e l = omega (arith, ap length (sym e ∙ l.whole))
-
 pub one_back : OneReadingBack
 one_back bytes a b (back.nothing e f) (back.nothing g h) = f ∙ sym h
-one_back bytes a b (back.nothing e f) (back.field l s g m) = absurd (no_field bytes e l)
-one_back bytes a b (back.field l s g m) (back.nothing e f) = absurd (no_field bytes e l)
+one_back bytes a b (back.nothing e f) (back.field l s g m) = absurd (nothing_leads bytes e l)
+one_back bytes a b (back.field l s g m) (back.nothing e f) = absurd (nothing_leads bytes e l)
 one_back bytes a b (back.field {body = body} {rest = rest} {tag = tag} {i = i} {more = more} l s g m) (back.field {body = other} {rest = behind} {tag = sign} {i = j} {more = next} k t h n) =
     let same = one_field bytes tag sign body rest other behind l k in
     let item : i ≡ j = one_item tag body i j s (subst (λ (v : ℕ). Says v body j) (sym same.0) (subst (λ (v : List ℕ). Says sign v j) (sym same.1) t)) in

@@ -4,7 +4,7 @@ use borrow.Author.Tests.{clash}
 use Rattle.std.proofs.lemmas.Bool.{or_cases, or_left, or_right, cases_order}
 use Rattle.grades.specs.Kinds.{Tells}
 use Rattle.judge.specs.Yes.{any}
-use Rattle.judge.proofs.Knowns.{tells_same}
+use Rattle.runs.proofs.WantedLists.{told_same}
 
 pub tells_yes : (P : Type 0) (b : Bool) → Tells b P → b ≡ true → P
 tells_yes P true p e = p
@@ -33,7 +33,7 @@ any_some f (suc n) e =
 -- f says of each tick whether P holds there
 pub tells_some : (P : ℕ → Type 0) (f : ℕ → Bool) (n : ℕ) (b : Bool) → ((t : ℕ) → f t ≡ true → P t) → ((t : ℕ) → P t → f t ≡ true) → Tells b ((t : ℕ) × ((t < n) × P t)) → b ≡ any f n
 tells_some P f n b i o h =
-    tells_same ((t : ℕ) × ((t < n) × P t)) b (any f n) h
+    told_same ((t : ℕ) × ((t < n) × P t)) b (any f n) h
     (tells_from ((t : ℕ) × ((t < n) × P t)) (any f n)
     (λ e. let r = any_some f n e in (r.0, (r.1.0, i r.0 r.1.1)))
     (λ q. any_from f n q.0 q.1.0 (o q.0 q.1.1)))

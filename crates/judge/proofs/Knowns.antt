@@ -2,18 +2,7 @@
 use Rattle.std.proofs.Common.{◌≡◌, ℕ, ◌<◌, ◌≤◌, Bool, true, false, Some, None, Option, sym, refl, arith}
 use mathlib.Core.Bool.{beq}
 use Rattle.pieces.specs.Ticks.{Before, Later}
-use Rattle.grades.specs.Kinds.{Tells}
 use Rattle.judge.specs.Yes.{clip}
-
-pub tells_map : {P Q : Type 0} (b : Bool) → (P → Q) → (Q → P) → Tells b P → Tells b Q
-tells_map true f h p = f p
-tells_map false f h n = λ q. n (h q)
-
-pub tells_same : (P : Type 0) (b c : Bool) → Tells b P → Tells c P → b ≡ c
-tells_same P true true p q = refl
-tells_same P true false p n = absurd (n p)
-tells_same P false true n p = absurd (n p)
-tells_same P false false n m = refl
 
 pub clip_before : (o : Option ℕ) (e k : ℕ) → k < clip o e → Before o k
 clip_before None e k h = tt
@@ -26,10 +15,6 @@ clip_later (Some n) e s h k = omega arith
 pub clip_most : (o : Option ℕ) (e : ℕ) → clip o e ≤ e
 clip_most None e = omega arith
 clip_most (Some n) e = omega arith
-
-pub later_before : (t : ℕ) (o : Option ℕ) → Later t o → Before o t
-later_before t None h = tt
-later_before t (Some n) h = h
 
 -- two answers that were compared
 pub same_if : (a b : Bool) → beq a b ≡ true → a ≡ b

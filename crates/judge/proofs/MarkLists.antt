@@ -1,6 +1,6 @@
 -- What is read off the want lists as they lie in the cells, and the marks that come of them.
 use Rattle.std.proofs.Common.{◌≡◌, ℕ, ◌+◌, ◌-◌, ◌<◌, ◌≤◌, Bool, true, false, List, [], ◌∷◌, ◌++◌, length, get_or, take, drop, Ok, Err, Result, sym, refl, ap, ◌∙◌, subst, sub-one, arith, length-append}
-use Rattle.std.proofs.lemmas.List.{map-id, take_all, take_at, length-take}
+use Rattle.std.proofs.lemmas.List.{take_all, take_at, length-take}
 use Rattle.std.proofs.lemmas.Int.{clamps}
 use Rattle.grades.specs.Kinds.{Kind, Tells}
 use Rattle.grades.specs.Ranges.{Settled}
@@ -9,7 +9,7 @@ use Rattle.rules.specs.declared.row.Row.{Row}
 use Rattle.rules.specs.Rows.{row_at, root, reach, Sound}
 use Rattle.pieces.specs.declared.piece.Piece.{Piece}
 use Rattle.pieces.specs.Pieces.{Lists, at_from}
-use Rattle.pieces.specs.Cells.{Put, shown}
+use Rattle.pieces.specs.Cells.{Put}
 use Rattle.pieces.proofs.Shows.{lists_at}
 use Rattle.meaning.specs.declared.mark.Mark.{Mark}
 use Rattle.meaning.specs.Readings.{Readings}
@@ -21,6 +21,7 @@ use Rattle.judge.specs.Places.{list_at, Stands}
 use Rattle.judge.specs.Children.{is_test, said, asks_at}
 use Rattle.judge.specs.Marks.{MarkedRows}
 use Rattle.judge.specs.Markings.{BeginsWith, RunsOut, RangesStand, WantsStand, MarksWritten}
+use Rattle.judge.proofs.WantFilling.{plain}
 use Rattle.judge.proofs.Stacks.{Stacked, lies, heard_at}
 use Rattle.judge.proofs.RowStretches.{marks_whole, marks_begun}
 use Rattle.judge.proofs.RowWants.{asks_tell, asks_near}
@@ -60,9 +61,6 @@ module _ (K : Kind) (rows : List Row) (x : Readings) (tick : ℕ) (starts : List
       let lk : k < length rows = omega (arith, sub-one (length rows)) in
       let e = W.listed.each k lk in
       subst (λ j. Lists (says j) (get_or W.lists j [])) (row_of i h) (says_itself e.0 (get_or W.lists (root rows - k) []) e.1.1)
-
-  plain : (ps : List (Piece Bool)) → shown (λ b. b) ps ≡ ps
-  plain ps = map-id ps
 
   wants_fit : length (all W.lists) ≤ length wants
   wants_fit = omega (arith, clamps, sym (ap length W.written), length-take (length (all W.lists)) wants)

@@ -7,7 +7,8 @@ use Rattle.pieces.proofs.Steadies.{later_sooner, before_sooner}
 use Rattle.grades.specs.Kinds.{Tells}
 use Rattle.judge.specs.Yes.{any, Known}
 use Rattle.judge.specs.Reaches.{Sees, sees, holds}
-use Rattle.judge.proofs.Knowns.{tells_map, tells_same}
+use Rattle.meaning.proofs.Readings.{tells_as}
+use Rattle.runs.proofs.WantedLists.{told_same}
 use Rattle.judge.proofs.Anys.{any_from, any_some, tells_from}
 use Rattle.judge.proofs.Sights.{sees_is, is_sees, holds_is, is_holds}
 
@@ -48,7 +49,7 @@ tells_or P Q false true n q = inr q
 tells_or P Q false false n m = ⊎_elim n m
 
 pub known_map : {P Q : ℕ → Type 0} (u : ℕ) (b : Bool) (o : Option ℕ) → ((w : ℕ) → P w → Q w) → ((w : ℕ) → Q w → P w) → Known P u b o → Known Q u b o
-known_map u b o f h k = (k.0, λ w a e. tells_map b (f w) (h w) (k.1 w a e))
+known_map u b o f h k = (k.0, λ w a e. tells_as b (f w) (h w) (k.1 w a e))
 
 pub known_or : (P Q : ℕ → Type 0) (u : ℕ) (b c : Bool) (o n : Option ℕ) → Known P u b o → Known Q u c n → Known (λ w. P w ⊎ Q w) u (b || c) (sooner o n)
 known_or P Q u b c o n k l = (
@@ -64,12 +65,12 @@ known_is P u b c o n p q k = subst (λ x. Known P u x o) (sym p) (subst (λ x. K
 
 -- the same, where only the ticks that matter are asked
 pub known_near : {P Q : ℕ → Type 0} (u : ℕ) (b : Bool) (o : Option ℕ) → ((w : ℕ) → u ≤ w → Before o w → P w → Q w) → ((w : ℕ) → u ≤ w → Before o w → Q w → P w) → Known P u b o → Known Q u b o
-known_near u b o f h k = (k.0, λ w a e. tells_map b (f w a e) (h w a e) (k.1 w a e))
+known_near u b o f h k = (k.0, λ w a e. tells_as b (f w a e) (h w a e) (k.1 w a e))
 
 module _ (sees : ℕ → ℕ → Bool) where
   pub tells_any : (n w : ℕ) (b : Bool) → Tells b (Between sees 0 n w) → b ≡ any (λ t. sees t w) n
   tells_any n w b h =
-      tells_same (Between sees 0 n w) b (any (λ t. sees t w) n) h
+      told_same (Between sees 0 n w) b (any (λ t. sees t w) n) h
       (tells_from (Between sees 0 n w) (any (λ t. sees t w) n)
       (λ e. let r = any_some (λ t. sees t w) n e in (r.0, (omega arith, r.1.0, r.1.1)))
       (λ q. any_from (λ t. sees t w) n q.0 q.1.1 q.1.2))

@@ -19,7 +19,7 @@ use Rattle.meaning.proofs.Stretches.{Next as ChainNext, Chain, has_chain}
 use Rattle.meaning.proofs.Lists.{Upto as RowsBelow, lists_as, lists_none, lists_more}
 use Rattle.judge.specs.Children.{is_test}
 use Rattle.judge.specs.Marks.{Next, Upto, Stretches, SomeStretches, OfRow, OfRows, SomeOfRows}
-use Rattle.judge.proofs.Knowns.{tells_map}
+use Rattle.meaning.proofs.Readings.{tells_as}
 use Rattle.judge.proofs.Anys.{tells_yes, tells_no}
 
 test_line : (row : Row) → is_test row ≡ true → (line : ℕ) × Tests row line
@@ -96,7 +96,7 @@ module _ (K : Kind) (rows : List Row) (sound : Sound rows) (x : Readings) (asked
   marked_told : (k : ℕ) → k < length rows → tests k ≡ true → (u : ℕ) → Tells (asks k u) (P k u)
   marked_told k below e u =
       let l = test_line (row_at rows k) e in
-      tells_map (asks k u) (λ h. record { line = l.0; tests = l.1; wanted = h.0; unsettled = h.1 }) (λ m. (m.wanted, m.unsettled)) (told k u below)
+      tells_as (asks k u) (λ h. record { line = l.0; tests = l.1; wanted = h.0; unsettled = h.1 }) (λ m. (m.wanted, m.unsettled)) (told k u below)
 
   no_marks : (k : ℕ) → tests k ≡ false → (u : ℕ) → P k u → ⊥
   no_marks k e u m = both_ways (tests k) e (line_test (row_at rows k) m.line m.tests)

@@ -3,11 +3,11 @@ use Rattle.std.proofs.Common.{◌≡◌, ℕ, ◌+◌, ◌-◌, ◌<◌, ◌≤�
 use borrow.Author.Tests.{both_ways, clash}
 use Rattle.std.proofs.lemmas.Bool.{cases_Bool, cases_lt, or_cases, or_parts}
 use Rattle.pieces.specs.Ticks.{Steady, sooner}
-use Rattle.pieces.proofs.Steadies.{steady_sooner}
+use Rattle.pieces.proofs.Steadies.{steady_sooner, before_self}
 use Rattle.grades.specs.Kinds.{Tells}
 use Rattle.judge.specs.Yes.{any, Known, First, Clear, clip}
 use Rattle.judge.specs.Reaches.{Sees, sees, Seen, Holds, holds, Held, Ahead}
-use Rattle.judge.proofs.Knowns.{clip_before, clip_later, clip_most, later_before}
+use Rattle.judge.proofs.Knowns.{clip_before, clip_later, clip_most}
 use Rattle.judge.proofs.Anys.{tells_some}
 use Rattle.judge.proofs.Sights.{sees_is, is_sees, holds_is, is_holds}
 
@@ -18,7 +18,7 @@ tells_cases P false h n = n refl
 module _ (f : ℕ → Bool) where
   -- what holds at p holds up to where a step from p ends
   pub run : (p e : ℕ) (v y : Bool) (o : Option ℕ) → f p ≡ v → Steady f p y o → (k : ℕ) → p ≤ k → k < clip o e → f k ≡ v
-  run p e v y o h st k l m = sym (st.1 k l (clip_before o e k m)) ∙ (st.1 p (omega arith) (later_before p o st.0) ∙ h)
+  run p e v y o h st k l m = sym (st.1 k l (clip_before o e k m)) ∙ (st.1 p (omega arith) (before_self p o st.0) ∙ h)
 
   pub clear_no : (s t e r : ℕ) (y : Bool) (o : Option ℕ) → Clear f s t r → Steady f t y o → t < e → y ≡ false → Clear f s (clip o e) r
   clear_no s t e r y o c st l h =
@@ -265,7 +265,7 @@ module _ (dead need : ℕ → Bool) (b end w u : ℕ) (from : u ≤ w) where
   pub ahead_near : (y z : Bool) (o n : Option ℕ) → w - b ≤ u → w < end → (dead w || need w) ≡ true → Steady dead w y o → Steady need w z n → y ≡ false → Ahead dead need b end w u true (Some (clip (sooner o n) end))
   ahead_near y z o n h we some st nt gone =
       let both = steady_sooner dead need w y z o n st nt in
-      let no : dead w ≡ false = sym (st.1 w (omega arith) (later_before w o st.0)) ∙ gone in
+      let no : dead w ≡ false = sym (st.1 w (omega arith) (before_self w o st.0)) ∙ gone in
       let here : need w ≡ true = ⊎_elim (λ (x : dead w ≡ true). absurd (both_ways (dead w) no x)) (λ x. x) (or_cases (dead w) (need w) some) in
       let wl : w < clip (sooner o n) end = clip_later (sooner o n) end w both.0.0 we in
       let most = clip_most (sooner o n) end in

@@ -1,7 +1,7 @@
 use Rattle.std.proofs.Common.{ℕ, true, false, Some, sym, ap, ◌∙◌, subst, arith}
 use Rattle.judge.specs.Yes.{clip}
 use Rattle.judge.specs.Reaches.{Ahead}
-use Rattle.judge.proofs.Knowns.{later_before}
+use Rattle.pieces.proofs.Steadies.{before_self}
 use Rattle.judge.proofs.Walks.{ahead_dead, ahead_far, ahead_near}
 use Rattle.judge.proofs.child.ahead.Goals as goal
 
@@ -11,7 +11,7 @@ returns-then-gone g c =
     let goal = g.C.YesNo.f c.args.need.now in
     let w = c.args.w in
     let st = c.step-gone.ensures in
-    ahead_dead dead goal c.args.to c.args.end w c.args.t c.requires.from c.requires.alive (sym (st.1 w (omega arith) (later_before w c.step-gone.result.1 st.0)) ∙ c.if-gone.true)
+    ahead_dead dead goal c.args.to c.args.end w c.args.t c.requires.from c.requires.alive (sym (st.1 w (omega arith) (before_self w c.step-gone.result.1 st.0)) ∙ c.if-gone.true)
 
 pub returns-then-t-soonest : goal.returns-then-t-soonest
 returns-then-t-soonest g c =

@@ -1,6 +1,6 @@
 use Rattle.std.proofs.Common.{◌≡◌, ◌+◌, ◌-◌, max, true, false, Some, None, sym, ◌∙◌, subst, arith}
 use Rattle.judge.specs.Yes.{First, Clear}
-use Rattle.judge.proofs.Knowns.{later_before}
+use Rattle.pieces.proofs.Steadies.{before_self}
 use Rattle.judge.proofs.Walks.{seen_steady, seen_dead, seen_never, seen_later, seen_found}
 use Rattle.judge.proofs.child.right_at.Goals as goal
 
@@ -52,7 +52,7 @@ returns g c =
     let q = c.clipped-q.result in
     let z = c.first-end.result in
     let gone = c.step-gone.ensures in
-    let here : dead u ≡ false = sym (gone.1 u (omega arith) (later_before u c.step-gone.result.1 gone.0)) ∙ c.if-gone.false in
+    let here : dead u ≡ false = sym (gone.1 u (omega arith) (before_self u c.step-gone.result.1 gone.0)) ∙ c.if-gone.false in
     let back : c.saturating_sub.result ≡ u - w.to = omega arith in
     let top : c.max.result ≡ max w.limit s = omega arith in
     let cl = subst (λ n. Clear dead n u s) back c.clear_from-s.ensures in

@@ -1,7 +1,8 @@
 use Rattle.std.proofs.Common.{◌<◌, ◌≤◌, sym, ◌∙◌, ⊎_elim, arith}
 use Rattle.std.proofs.lemmas.Bool.{cases_lt}
 use Rattle.judge.specs.Yes.{clip}
-use Rattle.judge.proofs.Knowns.{clip_before, clip_later, clip_most, later_before, same_if, apart_if}
+use Rattle.pieces.proofs.Steadies.{before_self}
+use Rattle.judge.proofs.Knowns.{clip_before, clip_later, clip_most, same_if, apart_if}
 use Rattle.judge.proofs.yes.first.Goals as goal
 
 pub returns-then-here-value : goal.returns-then-here-value
@@ -9,7 +10,7 @@ returns-then-here-value g c =
     let i = c.loop-t.invariant in
     let st = c.step-here.ensures in
     let h = same_if c.step-here.result.0 c.args.value c.if-here-value.true in
-    record { from = i.0; to = i.1; none = i.2; here = λ _. sym (st.1 c.loop-t.t (omega arith) (later_before c.loop-t.t c.step-here.result.1 st.0)) ∙ h }
+    record { from = i.0; to = i.1; none = i.2; here = λ _. sym (st.1 c.loop-t.t (omega arith) (before_self c.loop-t.t c.step-here.result.1 st.0)) ∙ h }
 
 pub loop-t-preserved : goal.loop-t-preserved
 loop-t-preserved g c =
