@@ -1,3 +1,6 @@
+pub mod Ends
+pub mod Conditions
+pub mod Settings
 pub mod Turns
 pub mod Holding
 pub mod Unique

@@ -1,3 +1,4 @@
+pub mod Ends
 pub mod States
 pub mod Conditions
 pub mod Jobs
