@@ -1,4 +1,3 @@
-pub mod Ends
 pub mod Conditions
 pub mod Settings
 pub mod Turns

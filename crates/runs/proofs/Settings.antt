@@ -1,5 +1,5 @@
 -- What a state has of an earlier one, with what is set between them.
-use Rattle.std.proofs.Common.{◌≡◌, ℕ, zero, suc, ◌+◌, ◌<◌, ◌≤◌, min, Bool, true, false, cond, ◌&&◌, eqb, ltb, leb, ◌≢◌, ◌⊎◌, List, [], ◌∷◌, length, get_or, set, replicate, Some, None, Option, IfSome, sym, refl, ap, ◌∙◌, subst, inl, inr, arith, get_or-set_other, get_or-set_same, ltb-false, ltb-true, eqb-true, leb-false, leb-true}
+use Rattle.std.proofs.Common.{◌≡◌, ℕ, ◌+◌, ◌<◌, ◌≤◌, min, Bool, true, false, cond, ◌&&◌, eqb, ltb, leb, ◌≢◌, ◌⊎◌, List, [], ◌∷◌, length, get_or, set, Some, None, Option, IfSome, sym, refl, ap, ◌∙◌, subst, inl, inr, arith, get_or-set_other, get_or-set_same, ltb-false, ltb-true, eqb-true, leb-false, leb-true}
 use borrow.Author.Tests.{eqb-false}
 use lib.Signed.{≤ℤ_refl}
 use Rattle.std.proofs.lemmas.Int.{ints}
@@ -13,7 +13,7 @@ use Rattle.meaning.specs.declared.mark.Mark.{Mark}
 use Rattle.meaning.specs.Readings.{Readings, widest, Within, AllWithin, entered}
 use Rattle.meaning.specs.Marks.{Tests, Listed}
 use Rattle.meaning.proofs.Readings.{entered_here, entered_elsewhere}
-use Rattle.runs.specs.States.{State, reading_at, readings_of, blank}
+use Rattle.runs.specs.States.{State, reading_at, readings_of}
 use Rattle.runs.specs.Jobs.{counted}
 use Rattle.runs.specs.Runs.{Setting, with_setting, setting_count, Touches}
 

@@ -4,7 +4,6 @@ use Rattle.std.proofs.lemmas.Int.{ints, clamps}
 use Rattle.grades.specs.Kinds.{Kind}
 use Rattle.rules.specs.declared.row.Row.{Row}
 use Rattle.rules.specs.Rows.{row_at}
-use Rattle.pieces.specs.declared.piece.Piece.{Piece}
 use Rattle.pieces.specs.Pieces.{Lists}
 use Rattle.meaning.specs.declared.reading.Reading.{Reading}
 use Rattle.meaning.specs.declared.mark.Mark.{Mark}
@@ -14,7 +13,7 @@ use Rattle.meaning.proofs.Readings.{reading_same}
 use Rattle.runs.specs.States.{State, reading_at, readings_of, made, blank, opened}
 use Rattle.runs.specs.Conditions.{FirstFailing}
 use Rattle.runs.specs.Jobs.{enter, known, tally, seal, JobAnswer, Narrows, Room, enter_asks, job_asks, JobTurn}
-use Rattle.runs.specs.Runs.{on_job, judge, mark, Setting, with_setting, Event, event, Turn, Ran, sets, after, after_all, is_seal, AllMiss}
+use Rattle.runs.specs.Runs.{on_job, judge, mark, Setting, Event, event, Turn, Ran, sets, after, after_all, is_seal, AllMiss}
 use Rattle.runs.proofs.Conditions.{all_hold}
 use Rattle.runs.proofs.Settings.{SetBetween, within_refl, within_trans, set_reads, setting_same, set_narrows, set_misses, EndsAt, set_ends}
 

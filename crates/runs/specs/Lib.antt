@@ -1,7 +1,8 @@
-pub mod Ends
+pub mod Nearest
 pub mod States
 pub mod Conditions
 pub mod Jobs
 pub mod Calls
 pub mod Runs
 pub mod Law
+pub mod Families

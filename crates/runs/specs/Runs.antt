@@ -1,5 +1,5 @@
 -- Lists of calls on one job, with their answers, judging in any mixture of kinds.
-use Rattle.std.specs.Prelude.{◌≡◌, ℕ, ◌+◌, ◌<◌, ◌≤◌, Bool, true, false, ◌||◌, List, [], ◌∷◌, Some, None, Option, IfSome, Ok, Err, Result}
+use Rattle.std.specs.Prelude.{◌≡◌, ℕ, ◌+◌, ◌<◌, ◌≤◌, Bool, true, false, ◌||◌, List, [], ◌∷◌, Some, None, Option, IfSome, Ok, Result}
 use Rattle.grades.specs.Kinds.{Kind}
 use Rattle.grades.specs.Ranges.{Span}
 use Rattle.rules.specs.declared.row.Row.{Row}

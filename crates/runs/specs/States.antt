@@ -4,8 +4,7 @@ use Rattle.pieces.specs.declared.piece.Piece.{Piece}
 use Rattle.pieces.specs.Pieces.{at_from}
 use Rattle.meaning.specs.declared.reading.Reading.{Reading}
 use Rattle.meaning.specs.Readings.{Readings, widest}
-use Rattle.runs.specs.Ends.{low_end, high_end}
-use Rattle.runs.proofs.Ends.{low_fits, high_fits, ends_ordered}
+use Rattle.runs.specs.Nearest.{low_end, high_end, low_fits, high_fits, ends_ordered}
 
 pub record State : Type 0 where
   pub lines : List (List (Piece Reading))
