@@ -11,7 +11,8 @@ use Rattle.meaning.proofs.Pinned.{lists_same}
 use Rattle.runs.specs.States.{State, opened, line_count, readings_of}
 use Rattle.runs.specs.Jobs.{enter}
 use Rattle.runs.specs.Calls.{judge_asks, mark_asks, JudgeTurn, Marking, MarkTurn}
-use Rattle.runs.proofs.Unique.{one_failing, job_one}
+use Rattle.runs.proofs.Conditions.{one_failing}
+use Rattle.runs.proofs.Unique.{job_one}
 use Rattle.cases.specs.declared.fault.CaseRefusal.{CaseRefusal}
 use Rattle.cases.specs.declared.field.Entry.{Entry}
 use Rattle.cases.specs.Contents.{Item, entry, tick}
