@@ -12,6 +12,7 @@ use Rattle.jobs.specs.declared.job.Job.{Job}
 use Rattle.jobs.specs.Entries.{Changes}
 use Rattle.jobs.specs.Faults.{enter_reply}
 use Rattle.jobs.specs.Jobs.{cells_of, state_of}
+use Rattle.jobs.specs.Lines.{noted_count}
 use Rattle.jobs.proofs.Parts.{length_lines, line_at}
 use Rattle.cases.specs.declared.call.Call.{Call}
 use Rattle.cases.specs.declared.call.Call.TheVariants.{Enter, Judge}
@@ -95,8 +96,8 @@ lines_lie asked before j z state behind on =
     let many₀ : length (state_of j).lines ≡ line_count asked (length before) = ap (λ (s : State). length s.lines) state ∙ length-replicate (line_count asked (length before)) blank in
     record {
       each = λ k there.
-          let line = line_at cells h.lines h.counts k (omega (arith, there, length_lines cells h.lines h.counts)) in
-          subst (λ (ps : List (Piece Reading)). take (length ps) (drop (64 * k) (cells_of z)) ≡ ps) (sym line) (again (get_or h.counts k 0) (drop (64 * k) cells));
+          let line = line_at cells h k (omega (arith, there, length_lines cells h)) in
+          subst (λ (ps : List (Piece Reading)). take (length ps) (drop (64 * k) (cells_of z)) ≡ ps) (sym line) (again (noted_count h k) (drop (64 * k) cells));
       behind = subst (λ n. drop (64 * n) (cells_of z) ≡ drop (64 * n) before) (sym many) (subst (λ n. drop (64 * n) (cells_of z) ≡ drop (64 * n) (cells_of j)) many₀ on.behind ∙ behind);
     }
 

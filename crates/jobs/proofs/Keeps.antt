@@ -10,7 +10,9 @@ use Rattle.meaning.specs.declared.reading.Reading.{Reading}
 use Rattle.meaning.specs.Readings.{widest}
 use Rattle.meaning.proofs.Readings.{reading_same}
 use Rattle.runs.specs.States.{reading_at}
-use Rattle.jobs.specs.Lines.{pieces_at, Kept, AllKept, Sound}
+use Rattle.jobs.specs.declared.held.Held.{Held}
+use Rattle.jobs.specs.Lines.{held_pieces}
+use Rattle.jobs.specs.Holds.{Kept, AllKept, HeldSound}
 
 reading_discrete : Discrete Reading
 reading_discrete p q = elim (ℤ_discrete p.lower q.lower) [
@@ -29,5 +31,5 @@ canonical_prop (p ∷ ps) = ×_prop (hlevel props) (rising_prop p ps)
 kept_prop : (ps : List (Piece Reading)) → IsProp (Kept ps)
 kept_prop ps = ×_prop (canonical_prop ps) (Π_prop (λ t. Π_prop (λ h. hedberg reading_discrete (reading_at ps t) widest)))
 
-pub kept_at : (cells : List (Piece Reading)) (lines : ℕ) (counts : List ℕ) → Sound cells lines counts → (k : ℕ) → k < lines → Kept (pieces_at cells counts k)
-kept_at cells lines counts s k h = ∥∥₁_elim s.kept (kept_prop (pieces_at cells counts k)) (λ (all : AllKept cells lines counts). all k h)
+pub kept_at : (cells : List (Piece Reading)) (h : Held) → HeldSound cells h → (k : ℕ) → k < h.lines → Kept (held_pieces cells h k)
+kept_at cells h s k l = ∥∥₁_elim s.kept (kept_prop (held_pieces cells h k)) (λ (all : AllKept cells h). all k l)

@@ -1,18 +1,18 @@
 -- The lines of a job by their numbers.
-use Rattle.std.proofs.Common.{◌≡◌, ℕ, ◌+◌, ◌<◌, ◌≤◌, List, [], map, length, get_or, arith, rules}
-use Rattle.std.specs.List.{range_with_len}
+use Rattle.std.proofs.Common.{◌≡◌, ℕ, ◌+◌, ◌<◌, ◌≤◌, List, [], length, get_or, arith, rules}
 use Rattle.std.proofs.lemmas.List.{places}
 use Rattle.std.proofs.lemmas.List.FromFn.{length-map-range_with_len, get_or-map-range_with_len}
 use Rattle.pieces.specs.declared.piece.Piece.{Piece}
 use Rattle.meaning.specs.declared.reading.Reading.{Reading}
-use Rattle.jobs.specs.Lines.{part, pieces_at}
+use Rattle.jobs.specs.declared.held.Held.{Held}
+use Rattle.jobs.specs.Lines.{part, held_pieces, held_state}
 
 pub length_part : {X : Type 0} (cells : List X) (base n : ℕ) → base + n ≤ length cells → length (part cells base n) ≡ n
 length_part cells base n h = search (rules, places)
 
-module _ (cells : List (Piece Reading)) (lines : ℕ) (counts : List ℕ) where
-  pub length_lines : length (map (pieces_at cells counts) (range_with_len 0 lines)) ≡ lines
-  length_lines = length-map-range_with_len (pieces_at cells counts) 0 lines
+module _ (cells : List (Piece Reading)) (h : Held) where
+  pub length_lines : length (held_state cells h).lines ≡ h.lines
+  length_lines = length-map-range_with_len (held_pieces cells h) 0 h.lines
 
-  pub line_at : (k : ℕ) → k < lines → get_or (map (pieces_at cells counts) (range_with_len 0 lines)) k [] ≡ pieces_at cells counts k
-  line_at k h = get_or-map-range_with_len (pieces_at cells counts) 0 lines k k [] h (omega arith)
+  pub line_at : (k : ℕ) → k < h.lines → get_or (held_state cells h).lines k [] ≡ held_pieces cells h k
+  line_at k l = get_or-map-range_with_len (held_pieces cells h) 0 h.lines k k [] l (omega arith)

@@ -11,8 +11,11 @@ use Rattle.runs.specs.Conditions.{FirstFailing}
 use Rattle.runs.specs.Jobs.{Narrows, Room, enter_asks}
 use Rattle.jobs.specs.declared.fault.EnterFault.{EnterFault}
 use Rattle.jobs.specs.declared.fault.EnterFault.TheVariants.{Sealed, NoSuchLine, BadStretch, NotReading, NotInside, TooManyPieces}
+use Rattle.jobs.specs.declared.held.Held.{Held}
 use Rattle.jobs.specs.Faults.{fault_number}
-use Rattle.jobs.specs.Entries.{Barred, Ready}
+use Rattle.jobs.specs.Lines.{held_state}
+use Rattle.jobs.specs.Checks.{Barred, Ready}
+use Rattle.jobs.proofs.Parts.{length_lines}
 
 -- numbers have one reading
 pub one_reading : (lower upper : ℤ) (p q : Reading) → Reads lower upper (Some p) → Reads lower upper (Some q) → p ≡ q
@@ -33,22 +36,25 @@ pub fails_as : (s : State) (line from to : ℕ) (l u lower upper : ℤ) (o : Opt
 fails_as s line from to l u lower upper o e f r =
     subst (λ z. FirstFailing (enter_asks s line from to z upper) o) e (subst (λ z. FirstFailing (enter_asks s line from to l z) o) f r)
 
--- an entry into a job with so many lines
-module _ (s : State) (lines : ℕ) (many : length s.lines ≡ lines) (line from to : ℕ) (lower upper : ℤ) where
+-- an entry into a job
+module _ (cells : List (Piece Reading)) (h : Held) (line from to : ℕ) (lower upper : ℤ) where
+  abbrev s : State
+  s = held_state cells h
+
   abbrev Fails : EnterFault → Type 0
   Fails e = FirstFailing (enter_asks s line from to lower upper) (Some (fault_number e))
 
-  pub barred_fails : (e : EnterFault) → Barred s.sealed lines line from to (Err e) → Fails e
+  pub barred_fails : (e : EnterFault) → Barred h line from to (Err e) → Fails e
   barred_fails Sealed b = inl (λ f. clash (sym f ∙ b), refl)
-  barred_fails NoSuchLine b = inr (b.0, inl (λ h. omega (arith, b.1), refl))
-  barred_fails BadStretch b = inr (b.0, inr (omega (arith, b.1), inl (b.2, refl)))
+  barred_fails NoSuchLine b = inr (b.0, inl (λ l. omega (arith, b.1, length_lines cells h), refl))
+  barred_fails BadStretch b = inr (b.0, inr (omega (arith, b.1, length_lines cells h), inl (b.2, refl)))
   barred_fails NotReading b = absurd b
   barred_fails NotInside b = absurd b
   barred_fails TooManyPieces b = absurd b
 
-  module _ (b : Barred s.sealed lines line from to (Ok tt)) where
+  module _ (b : Barred h line from to (Ok tt)) where
     there : line < length s.lines
-    there = omega (arith, b.1)
+    there = omega (arith, b.1, length_lines cells h)
 
     pub fails_4 : (Ends lower upper → ⊥) → Fails NotReading
     fails_4 n = inr (b.0, inr (there, inr ((b.2, b.3), inl (n, refl))))

@@ -1,54 +1,20 @@
 -- The list of what a line reads, with a reading set on a stretch, from the list of what it read before.
 use Rattle.std.proofs.Common.{◌≡◌, ℕ, zero, suc, ◌+◌, ◌-◌, ◌<◌, ◌≤◌, true, false, cond, ltb, List, [], ◌∷◌, ◌++◌, length, get_or, take, drop, Some, None, Option, sym, refl, ap, ◌∙◌, subst, inl, inr, ⊎_elim, arith, le-ltb, lt-ltb, ltb-true}
-use Rattle.std.specs.List.Sorted.{IsPartitionPoint}
-use Rattle.std.proofs.lemmas.Bool.{ltb-false}
 use Rattle.std.proofs.lemmas.Bool.{cases_lt}
 use Rattle.pieces.specs.declared.piece.Piece.{Piece}
 use Rattle.pieces.specs.Ticks.{Before, Steady}
-use Rattle.pieces.specs.Pieces.{last_from, Canonical, Lists}
+use Rattle.pieces.specs.Pieces.{last_from, count_before, Canonical, Lists}
 use Rattle.pieces.proofs.Steadies.{later_trans}
+use Rattle.pieces.proofs.Holders.{count_yes, count_no, count_within, last_value}
 use Rattle.pieces.proofs.Chains.{Chain, chain_rising, chain_behind, chain_at, to_chain, listed_chain, chain_listed}
 use Rattle.meaning.specs.declared.reading.Reading.{Reading}
 use Rattle.meaning.proofs.Readings.{entered_here, entered_elsewhere}
 use Rattle.runs.specs.States.{reading_at}
-use Rattle.jobs.specs.Edits.{lead, Joins, Follows, optional, set_on}
+use Rattle.jobs.specs.Edits.{Joins, Follows, optional, set_on}
 use Rattle.jobs.proofs.Looks.{own_list}
 
 abbrev piece : ℕ → Reading → Piece Reading
 piece t v = record { start = t; value = v }
-
--- the pieces at the front that start before t
-module _ (t : ℕ) (p : Piece Reading) (ps : List (Piece Reading)) where
-  lead_yes : p.start < t → lead t (p ∷ ps) ≡ suc (lead t ps)
-  lead_yes h = ap (λ b. cond b (suc (lead t ps)) 0) (lt-ltb p.start t h)
-
-  lead_no : t ≤ p.start → lead t (p ∷ ps) ≡ 0
-  lead_no h = ap (λ b. cond b (suc (lead t ps)) 0) (le-ltb p.start t h)
-
--- so many pieces start before t, and the others at t or behind
-pub lead_splits : (t : ℕ) (ps : List (Piece Reading)) (n : ℕ) → n ≤ length ps → IsPartitionPoint (λ (p : Piece Reading). ltb p.start t ≡ true) (λ (p : Piece Reading). ltb p.start t ≡ false) ps n → n ≡ lead t ps
-lead_splits t [] n h s = omega arith
-lead_splits t (p ∷ ps) zero h s = sym (lead_no t p ps (ltb-false p.start t (s.1 0 p (omega arith) (omega arith))))
-lead_splits t (p ∷ ps) (suc n) h s =
-    ap suc (lead_splits t ps n (omega arith) (λ k d l u. s.0 (suc k) d (omega arith) (omega arith), λ k d l u. s.1 (suc k) d (omega arith) (omega arith)))
-    ∙ sym (lead_yes t p ps (ltb-true p.start t (s.0 0 p (omega arith) (omega arith))))
-
-lead_within : (t : ℕ) (ps : List (Piece Reading)) → lead t ps ≤ length ps
-lead_within t [] = omega arith
-lead_within t (p ∷ ps) = ⊎_elim (λ h. omega (arith, lead_yes t p ps h, lead_within t ps)) (λ h. omega (arith, lead_no t p ps h)) (cases_lt p.start t)
-
-lead_more : (s t : ℕ) (ps : List (Piece Reading)) → s ≤ t → lead s ps ≤ lead t ps
-lead_more s t [] h = omega arith
-lead_more s t (p ∷ ps) h = ⊎_elim
-    (λ k. omega (arith, lead_yes s p ps k, lead_yes t p ps (omega arith), lead_more s t ps h))
-    (λ k. omega (arith, lead_no s p ps k))
-    (cases_lt p.start s)
-
--- the last of the first pieces
-last_value : (p : Piece Reading) (ps : List (Piece Reading)) (i : ℕ) (d : Piece Reading) → i ≤ length ps → (get_or (p ∷ ps) i d).value ≡ last_from p.value (take i ps)
-last_value p ps zero d h = refl
-last_value p [] (suc i) d h = absurd (omega arith)
-last_value p (q ∷ qs) (suc i) d h = last_value q qs i d (omega arith)
 
 module _ (f : ℕ → Reading) where
   -- two chains, one behind the other
@@ -74,21 +40,21 @@ module _ (f : ℕ → Reading) where
       subst (λ (z : Piece Reading). Chain f p (ps ++ (z ∷ qs)) o) (sym j.0) (join_apart p ps (piece t v) qs o c j.1 d)
 
   -- the pieces up to t, and those from t on
-  front : (t : ℕ) (p : Piece Reading) (ps : List (Piece Reading)) → Chain f p ps None → p.start < t → Chain f p (take (lead t ps) ps) (Some t)
+  front : (t : ℕ) (p : Piece Reading) (ps : List (Piece Reading)) → Chain f p ps None → p.start < t → Chain f p (take (count_before t ps) ps) (Some t)
   front t p [] c h = (h, λ u a b. c.1 u a tt)
   front t p (q ∷ qs) c h = ⊎_elim
-      (λ k. subst (λ n. Chain f p (take n (q ∷ qs)) (Some t)) (sym (lead_yes t q qs k)) (c.0, c.1, front t q qs c.2 k))
-      (λ k. subst (λ n. Chain f p (take n (q ∷ qs)) (Some t)) (sym (lead_no t q qs k)) (h, λ u a b. c.0.1 u a (omega arith)))
+      (λ k. subst (λ n. Chain f p (take n (q ∷ qs)) (Some t)) (sym (count_yes t q qs k)) (c.0, c.1, front t q qs c.2 k))
+      (λ k. subst (λ n. Chain f p (take n (q ∷ qs)) (Some t)) (sym (count_no t q qs k)) (h, λ u a b. c.0.1 u a (omega arith)))
       (cases_lt q.start t)
 
   abbrev Back : ℕ → Piece Reading → List (Piece Reading) → ℕ → Type 0
   Back t p ps n = Chain f (piece t (last_from p.value (take n ps))) (drop n ps) None
 
-  back : (t : ℕ) (p : Piece Reading) (ps : List (Piece Reading)) → Chain f p ps None → p.start ≤ t → Back t p ps (lead (t + 1) ps)
+  back : (t : ℕ) (p : Piece Reading) (ps : List (Piece Reading)) → Chain f p ps None → p.start ≤ t → Back t p ps (count_before (t + 1) ps)
   back t p [] c h = (tt, λ u a b. c.1 u (omega arith) tt)
   back t p (q ∷ qs) c h = ⊎_elim
-      (λ k. subst (Back t p (q ∷ qs)) (sym (lead_yes (t + 1) q qs k)) (back t q qs c.2 (omega arith)))
-      (λ k. subst (Back t p (q ∷ qs)) (sym (lead_no (t + 1) q qs k)) ((omega arith, λ u a b. c.0.1 u (omega arith) b), c.1, c.2))
+      (λ k. subst (Back t p (q ∷ qs)) (sym (count_yes (t + 1) q qs k)) (back t q qs c.2 (omega arith)))
+      (λ k. subst (Back t p (q ∷ qs)) (sym (count_no (t + 1) q qs k)) ((omega arith, λ u a b. c.0.1 u (omega arith) b), c.1, c.2))
       (cases_lt q.start (t + 1))
 
 chain_as : (f g : ℕ → Reading) (p : Piece Reading) (ps : List (Piece Reading)) (o : Option ℕ) → ((u : ℕ) → p.start ≤ u → Before o u → f u ≡ g u) → Chain f p ps o → Chain g p ps o
@@ -103,35 +69,35 @@ record Sets (f g : ℕ → Reading) (from to : ℕ) (v : Reading) : Type 0 where
 module _ (f g : ℕ → Reading) (from to : ℕ) (v : Reading) (order : from < to) (sets : Sets f g from to v) where
   -- from the stretch on
   tail_chain : (p : Piece Reading) (ps : List (Piece Reading)) (x : Option (Piece Reading)) → Chain f p ps None → p.start ≤ to →
-      Joins to (last_from p.value (take (lead (to + 1) ps) ps)) v x → Chain g (piece from v) (optional x ++ drop (lead (to + 1) ps) ps) None
+      Joins to (last_from p.value (take (count_before (to + 1) ps) ps)) v x → Chain g (piece from v) (optional x ++ drop (count_before (to + 1) ps) ps) None
   tail_chain p ps x c h j =
-      let w = last_from p.value (take (lead (to + 1) ps) ps) in
-      join g (piece from v) [] to w x (drop (lead (to + 1) ps) ps) None j
+      let w = last_from p.value (take (count_before (to + 1) ps) ps) in
+      join g (piece from v) [] to w x (drop (count_before (to + 1) ps) ps) None j
       (order, λ u a b. sym (sets.inside u a b))
-      (chain_as f g (piece to w) (drop (lead (to + 1) ps) ps) None (λ u a b. sym (sets.after u a)) (back f to p ps c h))
+      (chain_as f g (piece to w) (drop (count_before (to + 1) ps) ps) None (λ u a b. sym (sets.after u a)) (back f to p ps c h))
 
-  set_lists : (ps : List (Piece Reading)) (x y : Option (Piece Reading)) (d : Piece Reading) → Lists f ps → Follows (take (lead from ps) ps) from v x → Joins to (get_or ps (lead (to + 1) ps - 1) d).value v y →
-      Lists g (take (lead from ps) ps ++ (optional x ++ (optional y ++ drop (lead (to + 1) ps) ps)))
+  set_lists : (ps : List (Piece Reading)) (x y : Option (Piece Reading)) (d : Piece Reading) → Lists f ps → Follows (take (count_before from ps) ps) from v x → Joins to (get_or ps (count_before (to + 1) ps - 1) d).value v y →
+      Lists g (take (count_before from ps) ps ++ (optional x ++ (optional y ++ drop (count_before (to + 1) ps) ps)))
   set_lists [] x y d l fo j = absurd l.0
   set_lists (p ∷ ps) x y d l fo j =
       let c = listed_chain f p ps l in
       let zero_start : p.start ≡ 0 = l.0.0 in
-      let n : ℕ = lead (to + 1) ps in
-      let more : lead (to + 1) (p ∷ ps) ≡ suc n = lead_yes (to + 1) p ps (omega arith) in
-      let at : lead (to + 1) (p ∷ ps) - 1 ≡ n = omega arith in
-      let last = ap (λ m. (get_or (p ∷ ps) m d).value) at ∙ last_value p ps n d (lead_within (to + 1) ps) in
+      let n : ℕ = count_before (to + 1) ps in
+      let more : count_before (to + 1) (p ∷ ps) ≡ suc n = count_yes (to + 1) p ps (omega arith) in
+      let at : count_before (to + 1) (p ∷ ps) - 1 ≡ n = omega arith in
+      let last = ap (λ m. (get_or (p ∷ ps) m d).value) at ∙ last_value p ps n d (count_within (to + 1) ps) in
       let tl = tail_chain p ps y c (omega arith) (subst (λ w. Joins to w v y) last j) in
-      subst (λ m. Lists g (take (lead from (p ∷ ps)) (p ∷ ps) ++ (optional x ++ (optional y ++ drop m (p ∷ ps))))) (sym more)
+      subst (λ m. Lists g (take (count_before from (p ∷ ps)) (p ∷ ps) ++ (optional x ++ (optional y ++ drop m (p ∷ ps))))) (sym more)
       (⊎_elim
       (λ (h : p.start < from).
-      let one : lead from (p ∷ ps) ≡ suc (lead from ps) = lead_yes from p ps h in
-      let fo' : Joins from v (last_from p.value (take (lead from ps) ps)) x = subst (λ m. Follows (take m (p ∷ ps)) from v x) one fo in
+      let one : count_before from (p ∷ ps) ≡ suc (count_before from ps) = count_yes from p ps h in
+      let fo' : Joins from v (last_from p.value (take (count_before from ps) ps)) x = subst (λ m. Follows (take m (p ∷ ps)) from v x) one fo in
       subst (λ m. Lists g (take m (p ∷ ps) ++ (optional x ++ (optional y ++ drop n ps)))) (sym one)
-      (chain_listed g p (take (lead from ps) ps ++ (optional x ++ (optional y ++ drop n ps))) zero_start
-      (join g p (take (lead from ps) ps) from v x (optional y ++ drop n ps) None fo'
-      (chain_as f g p (take (lead from ps) ps) (Some from) (λ u a b. sym (sets.before u b)) (front f from p ps c h)) tl)))
+      (chain_listed g p (take (count_before from ps) ps ++ (optional x ++ (optional y ++ drop n ps))) zero_start
+      (join g p (take (count_before from ps) ps) from v x (optional y ++ drop n ps) None fo'
+      (chain_as f g p (take (count_before from ps) ps) (Some from) (λ u a b. sym (sets.before u b)) (front f from p ps c h)) tl)))
       (λ (h : from ≤ p.start).
-      let none : lead from (p ∷ ps) ≡ 0 = lead_no from p ps h in
+      let none : count_before from (p ∷ ps) ≡ 0 = count_no from p ps h in
       let fo' : x ≡ Some (piece from v) = subst (λ m. Follows (take m (p ∷ ps)) from v x) none fo in
       subst (λ m. Lists g (take m (p ∷ ps) ++ (optional x ++ (optional y ++ drop n ps)))) (sym none)
       (subst (λ o. Lists g (optional o ++ (optional y ++ drop n ps))) (sym fo')
@@ -153,18 +119,11 @@ set_on_sets ps from to v = record {
   after = λ u h. entered_elsewhere (λ line. reading_at ps) 0 from to v 0 u (inr (inr h));
 }
 
-lead_some : (t : ℕ) (ps : List (Piece Reading)) → Canonical ps → 0 < lead (t + 1) ps
-lead_some t [] c = absurd c
-lead_some t (p ∷ ps) c = omega (arith, lead_yes (t + 1) p ps (omega (arith, c.0)))
-
-pub plan_order : (ps : List (Piece Reading)) (from to keep skip : ℕ) → Canonical ps → from < to → keep ≡ lead from ps → skip ≡ lead (to + 1) ps → (keep ≤ skip) × (0 < skip) × (skip ≤ length ps)
-plan_order ps from to keep skip c h ke se = (omega (arith, lead_more from (to + 1) ps (omega arith)), omega (arith, lead_some to ps c), omega (arith, lead_within (to + 1) ps))
-
-pub plan_lists : (ps : List (Piece Reading)) (from to keep skip : ℕ) (v : Reading) (x y : Option (Piece Reading)) (d : Piece Reading) → Canonical ps → from < to → keep ≡ lead from ps → skip ≡ lead (to + 1) ps →
+pub plan_lists : (ps : List (Piece Reading)) (from to keep skip : ℕ) (v : Reading) (x y : Option (Piece Reading)) (d : Piece Reading) → Canonical ps → from < to → keep ≡ count_before from ps → skip ≡ count_before (to + 1) ps →
     Follows (take keep ps) from v x → Joins to (get_or ps (skip - 1) d).value v y → Lists (set_on ps from to v) (take keep ps ++ (optional x ++ (optional y ++ drop skip ps)))
 plan_lists ps from to keep skip v x y d c order ke se fo j =
     let fo' = subst (λ k. Follows (take k ps) from v x) ke fo in
     let j' = subst (λ k. Joins to (get_or ps (k - 1) d).value v y) se j in
     let l = set_lists (reading_at ps) (set_on ps from to v) from to v order (set_on_sets ps from to v) ps x y d (own_list ps c) fo' j' in
     subst (λ k. Lists (set_on ps from to v) (take k ps ++ (optional x ++ (optional y ++ drop skip ps)))) (sym ke)
-    (subst (λ k. Lists (set_on ps from to v) (take (lead from ps) ps ++ (optional x ++ (optional y ++ drop k ps)))) (sym se) l)
+    (subst (λ k. Lists (set_on ps from to v) (take (count_before from ps) ps ++ (optional x ++ (optional y ++ drop k ps)))) (sym se) l)

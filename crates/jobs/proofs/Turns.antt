@@ -1,7 +1,6 @@
 -- What an entry leaves: a sound job, and the state that the run of calls wants.
-use Rattle.std.proofs.Common.{◌≡◌, ℕ, ◌+◌, ◌*◌, ◌<◌, ◌≤◌, Bool, cond, ◌&&◌, ltb, leb, List, [], ◌∷◌, ◌++◌, map, length, get_or, take, drop, set, Ok, Err, Result, sym, refl, ap, ◌∙◌, subst, ap₂, inr, ⊎_elim, arith, eq-eqb}
+use Rattle.std.proofs.Common.{◌≡◌, ℕ, ◌+◌, ◌*◌, ◌<◌, ◌≤◌, cond, ◌&&◌, ltb, leb, List, [], ◌∷◌, ◌++◌, length, get_or, take, drop, set, Ok, Err, Result, sym, refl, ap, ◌∙◌, subst, ap₂, inr, ⊎_elim, arith, eq-eqb}
 use mathlib.Core.Logic.{∥∥₁_map}
-use Rattle.std.specs.List.{range_with_len}
 use Rattle.std.proofs.lemmas.List.FromFn.{fill_by_all}
 use Rattle.std.proofs.lemmas.List.{length-set, get_or-set_same, get_or-set_other, length-append, length-take-le, length-drop, drop-take}
 use Rattle.std.proofs.lemmas.Bool.{cases_eq, cases_lt}
@@ -14,15 +13,19 @@ use Rattle.meaning.proofs.Readings.{entered_elsewhere}
 use Rattle.runs.specs.States.{State, reading_at, readings_of}
 use Rattle.runs.specs.Jobs.{enter, JobAnswer, accepted, Room, counted, JobTurn}
 use Rattle.jobs.specs.declared.edit.Edit.{Edit}
-use Rattle.jobs.specs.Lines.{part, written, pieces_at, state_from, Kept, AllKept, Sound}
-use Rattle.jobs.specs.Edits.{set_on, optional, edited, size_after_lem}
-use Rattle.jobs.specs.Entries.{Ready, Changes}
+use Rattle.jobs.specs.declared.held.Held.{Held}
+use Rattle.jobs.specs.declared.held.LineNote.{LineNote}
+use Rattle.jobs.specs.Lines.{part, noted_count, held_pieces, held_state}
+use Rattle.jobs.specs.Entries.{Changes}
+use Rattle.jobs.specs.Holds.{Kept, AllKept, HeldSound}
+use Rattle.jobs.specs.Checks.{Ready}
+use Rattle.jobs.specs.Edits.{written, set_on, optional, edited, edited_size}
 use Rattle.jobs.proofs.Parts.{length_part, length_lines, line_at}
 use Rattle.jobs.proofs.Keeps.{kept_at}
 use Rattle.jobs.proofs.Writes.{take_written, part_written, drop_written, length_written}
 use Rattle.jobs.proofs.Refusals.{one_reading, fails_6, none_fails}
 
-length_edited : (ps : List (Piece Reading)) (e : Edit) → e.keep ≤ e.skip → e.skip ≤ length ps → length (edited ps e) ≡ size_after_lem e (length ps)
+length_edited : (ps : List (Piece Reading)) (e : Edit) → e.keep ≤ e.skip → e.skip ≤ length ps → length (edited ps e) ≡ edited_size e (length ps)
 length_edited ps e h k =
     let fs = optional e.first in
     let gs = optional e.second in
@@ -32,19 +35,19 @@ length_edited ps e h k =
     omega (arith, a, b, c, length-take-le e.keep ps (omega arith), length-drop e.skip ps)
 
 -- an edit of a line's pieces
-module _ (cells : List (Piece Reading)) (lines : ℕ) (counts : List ℕ) (sound : Sound cells lines counts) (line : ℕ) (there : line < lines)
-    (qs : List (Piece Reading)) (are : qs ≡ pieces_at cells counts line) (e : Edit) (order : (e.keep ≤ e.skip) × (e.skip ≤ length qs)) where
-  many : length (pieces_at cells counts line) ≡ get_or counts line 0
-  many = length_part cells (64 * line) (get_or counts line 0) (omega (arith, sound.room, sound.short line there))
+module _ (cells : List (Piece Reading)) (h : Held) (sound : HeldSound cells h) (line : ℕ) (there : line < h.lines)
+    (qs : List (Piece Reading)) (are : qs ≡ held_pieces cells h line) (e : Edit) (order : (e.keep ≤ e.skip) × (e.skip ≤ length qs)) where
+  many : length (held_pieces cells h line) ≡ noted_count h line
+  many = length_part cells (64 * line) (noted_count h line) (omega (arith, sound.room, sound.short line there))
 
-  pub edit_order : (e.keep ≤ e.skip) × (e.skip ≤ get_or counts line 0)
+  pub edit_order : (e.keep ≤ e.skip) × (e.skip ≤ noted_count h line)
   edit_order = (order.0, omega (arith, order.1, ap length are, many))
 
-  pub edit_size : (n : ℕ) → n ≡ size_after_lem e (get_or counts line 0) → n ≡ length (edited (pieces_at cells counts line) e)
-  edit_size n h =
-      h ∙ ap (size_after_lem e) (sym many) ∙ sym (length_edited (pieces_at cells counts line) e order.0 (omega (arith, order.1, ap length are)))
+  pub edit_size : (n : ℕ) → n ≡ edited_size e (noted_count h line) → n ≡ length (edited (held_pieces cells h line) e)
+  edit_size n l =
+      l ∙ ap (edited_size e) (sym many) ∙ sym (length_edited (held_pieces cells h line) e order.0 (omega (arith, order.1, ap length are)))
 
-  pub edit_lists : (from to : ℕ) (p : Reading) → Lists (set_on qs from to p) (edited qs e) → Lists (set_on (pieces_at cells counts line) from to p) (edited (pieces_at cells counts line) e)
+  pub edit_lists : (from to : ℕ) (p : Reading) → Lists (set_on qs from to p) (edited qs e) → Lists (set_on (held_pieces cells h line) from to p) (edited (held_pieces cells h line) e)
   edit_lists from to p l = subst (λ xs. Lists (set_on xs from to p) (edited xs e)) are l
 
 reads_listed : (f : ℕ → Reading) (es : List (Piece Reading)) → Lists f es → (t : ℕ) → reading_at es t ≡ f t
@@ -55,13 +58,17 @@ lists_as : (f g : ℕ → Reading) (es : List (Piece Reading)) → ((t : ℕ) �
 lists_as f g [] e l = absurd l.0
 lists_as f g (p ∷ ps) e l = (l.0, λ t. l.1 t ∙ e t)
 
+-- what is held once the entry is counted, with n pieces in the line
+abbrev pub noted : Held → ℕ → ℕ → ℕ → Held
+noted h line n m = record h { notes = set h.notes line (record { count = n }); tally = m }
+
 -- the lines with the pieces es put into one of them
-module _ (cells : List (Piece Reading)) (lines : ℕ) (counts : List ℕ) (sound : Sound cells lines counts) (line : ℕ) (there : line < lines) (counted_in : line < length counts) (es : List (Piece Reading)) (short : length es ≤ 64) where
+module _ (cells : List (Piece Reading)) (h : Held) (sound : HeldSound cells h) (line : ℕ) (there : line < h.lines) (in_notes : line < length h.notes) (es : List (Piece Reading)) (short : length es ≤ 64) (tally : ℕ) where
   abbrev after : List (Piece Reading)
   after = written cells (64 * line) es
 
-  abbrev sizes : List ℕ
-  sizes = set counts line (length es)
+  abbrev now : Held
+  now = noted h line (length es) tally
 
   fits : 64 * line + length es ≤ length cells
   fits = omega (arith, sound.room)
@@ -69,43 +76,48 @@ module _ (cells : List (Piece Reading)) (lines : ℕ) (counts : List ℕ) (sound
   pub rest_kept : Changes line cells after (Ok tt)
   rest_kept = (take_written cells (64 * line) es fits (64 * line) (omega arith), drop_written cells (64 * line) es fits (64 * line + 64) (omega arith))
 
-  here : pieces_at after sizes line ≡ es
-  here = ap (part after (64 * line)) (get_or-set_same counts line (length es) 0 counted_in) ∙ part_written cells (64 * line) es fits
+  count_here : noted_count now line ≡ length es
+  count_here = ap (λ (n : LineNote). n.count) (get_or-set_same h.notes line (record { count = length es }) (record { count = 0 }) in_notes)
 
-  other : (k : ℕ) → k < lines → (k ≡ line → ⊥) → pieces_at after sizes k ≡ pieces_at cells counts k
-  other k h n =
-      let m = get_or counts k 0 in
-      ap (part after (64 * k)) (get_or-set_other counts line k (length es) 0 n) ∙ ⊎_elim
+  count_other : (k : ℕ) → (k ≡ line → ⊥) → noted_count now k ≡ noted_count h k
+  count_other k n = ap (λ (n : LineNote). n.count) (get_or-set_other h.notes line k (record { count = length es }) (record { count = 0 }) n)
+
+  here : held_pieces after now line ≡ es
+  here = ap (part after (64 * line)) count_here ∙ part_written cells (64 * line) es fits
+
+  other : (k : ℕ) → k < h.lines → (k ≡ line → ⊥) → held_pieces after now k ≡ held_pieces cells h k
+  other k l n =
+      let m = noted_count h k in
+      ap (part after (64 * k)) (count_other k n) ∙ ⊎_elim
       (λ (b : k < line).
-      sym (drop-take (64 * k) m after) ∙ ap (drop (64 * k)) (take_written cells (64 * line) es fits (64 * k + m) (omega (arith, sound.short k h))) ∙ drop-take (64 * k) m cells)
+      sym (drop-take (64 * k) m after) ∙ ap (drop (64 * k)) (take_written cells (64 * line) es fits (64 * k + m) (omega (arith, sound.short k l))) ∙ drop-take (64 * k) m cells)
       (λ (b : line ≤ k). ap (take m) (drop_written cells (64 * line) es fits (64 * k) (omega arith)))
       (cases_lt k line)
 
-  lines_set : map (pieces_at after sizes) (range_with_len 0 lines) ≡ set (map (pieces_at cells counts) (range_with_len 0 lines)) line es
+  lines_set : (held_state after now).lines ≡ set (held_state cells h).lines line es
   lines_set =
-      let all = map (pieces_at cells counts) (range_with_len 0 lines) in
-      let many : length all ≡ lines = length_lines cells lines counts in
-      sym (fill_by_all (pieces_at after sizes) (set all line es) lines [] (length-set all line es ∙ many) (λ k h. ⊎_elim
+      let all = (held_state cells h).lines in
+      sym (fill_by_all (held_pieces after now) (set all line es) h.lines [] (length-set all line es ∙ length_lines cells h) (λ k l. ⊎_elim
       (λ (e : k ≡ line).
-      ap (λ j. get_or (set all line es) j []) e ∙ get_or-set_same all line es [] (omega arith) ∙ sym here ∙ ap (pieces_at after sizes) (sym e))
+      ap (λ j. get_or (set all line es) j []) e ∙ get_or-set_same all line es [] (omega (arith, length_lines cells h)) ∙ sym here ∙ ap (held_pieces after now) (sym e))
       (λ (n : k ≡ line → ⊥).
-      get_or-set_other all line k es [] n ∙ line_at cells lines counts k h ∙ sym (other k h n))
+      get_or-set_other all line k es [] n ∙ line_at cells h k l ∙ sym (other k l n))
       (cases_eq k line)))
 
-  pub state_set : (tally : ℕ) (sealed : Bool) → state_from after lines sizes tally sealed ≡ record { lines = set (map (pieces_at cells counts) (range_with_len 0 lines)) line es; tally = tally; sealed = sealed }
-  state_set tally sealed = ap (λ (ls : List (List (Piece Reading))). record { lines = ls; tally = tally; sealed = sealed }) lines_set
+  pub state_set : held_state after now ≡ record (held_state cells h) { lines = set (held_state cells h).lines line es; tally = tally }
+  state_set = ap (λ (ls : List (List (Piece Reading))). record (held_state cells h) { lines = ls; tally = tally }) lines_set
 
-  pub sound_set : Kept es → Sound after lines sizes
+  pub sound_set : Kept es → HeldSound after now
   sound_set kept = record {
     few = sound.few;
     room = omega (arith, sound.room, length_written cells (64 * line) es fits);
-    short = λ k h. ⊎_elim
-        (λ (e : k ≡ line). subst (λ j. get_or sizes j 0 ≤ 64) (sym e) (omega (arith, get_or-set_same counts line (length es) 0 counted_in)))
-        (λ (n : k ≡ line → ⊥). omega (arith, get_or-set_other counts line k (length es) 0 n, sound.short k h))
+    short = λ k l. ⊎_elim
+        (λ (e : k ≡ line). subst (λ j. noted_count now j ≤ 64) (sym e) (omega (arith, count_here)))
+        (λ (n : k ≡ line → ⊥). omega (arith, count_other k n, sound.short k l))
         (cases_eq k line);
-    kept = ∥∥₁_map sound.kept (λ (all : AllKept cells lines counts). λ k h. ⊎_elim
-        (λ (e : k ≡ line). subst (λ j. Kept (pieces_at after sizes j)) (sym e) (subst Kept (sym here) kept))
-        (λ (n : k ≡ line → ⊥). subst Kept (sym (other k h n)) (all k h))
+    kept = ∥∥₁_map sound.kept (λ (all : AllKept cells h). λ k l. ⊎_elim
+        (λ (e : k ≡ line). subst (λ j. Kept (held_pieces after now j)) (sym e) (subst Kept (sym here) kept))
+        (λ (n : k ≡ line → ⊥). subst Kept (sym (other k l n)) (all k l))
         (cases_eq k line));
   }
 
@@ -131,32 +143,33 @@ kept_set ps es from to p h k l =
     (l.0, λ t a. reads_listed (set_on ps from to p) es l t ∙ entered_elsewhere (λ line. reading_at ps) 0 from to p 0 t (inr (inr (omega arith))) ∙ k.1 t a)
 
 -- an entry for which the first five conditions hold, and the list that it leads to
-module _ (cells : List (Piece Reading)) (lines : ℕ) (counts : List ℕ) (tally : ℕ) (sealed : Bool) (sound : Sound cells lines counts) (line : ℕ) (there : line < lines)
-    (from to : ℕ) (p : Reading) (ready : Ready (state_from cells lines counts tally sealed) line from to p) (es : List (Piece Reading)) (l : Lists (set_on (pieces_at cells counts line) from to p) es) where
+module _ (cells : List (Piece Reading)) (h : Held) (sound : HeldSound cells h) (line : ℕ) (there : line < h.lines)
+    (from to : ℕ) (p : Reading) (ready : Ready (held_state cells h) line from to p) (es : List (Piece Reading)) (l : Lists (set_on (held_pieces cells h line) from to p) es) where
   abbrev state : State
-  state = state_from cells lines counts tally sealed
+  state = held_state cells h
 
   abbrev Turns : Result JobAnswer ℕ → State → Type 0
   Turns = JobTurn state (enter line from to p.lower p.upper)
 
-  is : get_or state.lines line [] ≡ pieces_at cells counts line
-  is = line_at cells lines counts line there
+  is : get_or state.lines line [] ≡ held_pieces cells h line
+  is = line_at cells h line there
 
   pub turned_down : 64 < length es → Turns (Err 6) state
-  turned_down h = (fails_6 state line from to p.lower p.upper p (refl, refl) ready (no_room state line from to p ready (pieces_at cells counts line) es is l h), refl)
+  turned_down k = (fails_6 state line from to p.lower p.upper p (refl, refl) ready (no_room state line from to p ready (held_pieces cells h line) es is l k), refl)
 
   -- the cells, the number of pieces and the tally are what it makes of them
   abbrev Left : List (Piece Reading) → ℕ → ℕ → Type 0
-  Left xs n m = Sound xs lines (set counts line n) × Turns (Ok accepted) (state_from xs lines (set counts line n) m sealed) × Changes line cells xs (Ok tt)
+  Left xs n m = HeldSound xs (noted h line n m) × Turns (Ok accepted) (held_state xs (noted h line n m)) × Changes line cells xs (Ok tt)
 
-  pub taken_up : (xs : List (Piece Reading)) (n m : ℕ) → line < length counts → length es ≤ 64 → xs ≡ written cells (64 * line) es → n ≡ length es → m ≡ counted tally → Left xs n m
-  taken_up xs n m counted_in short xe ne me =
-      let ps = pieces_at cells counts line in
-      let kept = kept_set ps es from to p ready.stretch.1 (kept_at cells lines counts sound line there) l in
-      let turn : Turns (Ok accepted) (state_from (written cells (64 * line) es) lines (set counts line (length es)) (counted tally) sealed) = (
+  pub taken_up : (xs : List (Piece Reading)) (n m : ℕ) → line < length h.notes → length es ≤ 64 → xs ≡ written cells (64 * line) es → n ≡ length es → m ≡ counted h.tally → Left xs n m
+  taken_up xs n m in_notes short xe ne me =
+      let ps = held_pieces cells h line in
+      let after = written cells (64 * line) es in
+      let kept = kept_set ps es from to p ready.stretch.1 (kept_at cells h sound line there) l in
+      let turn : Turns (Ok accepted) (held_state after (noted h line (length es) (counted h.tally))) = (
         none_fails state line from to p.lower p.upper p (refl, refl) ready (room state line from to p ready ps es is l short),
-        (refl, (p, (es, (((refl, refl), set_listed state line from to p ready ps es is l), state_set cells lines counts sound line there counted_in es short (counted tally) sealed)))),
+        (refl, (p, (es, (((refl, refl), set_listed state line from to p ready ps es is l), state_set cells h sound line there in_notes es short (counted h.tally))))),
       ) in
-      let all : Left (written cells (64 * line) es) (length es) (counted tally) =
-      (sound_set cells lines counts sound line there counted_in es short kept, turn, rest_kept cells lines counts sound line there counted_in es short) in
-      subst (λ ys. Left ys n m) (sym xe) (subst (λ j. Left (written cells (64 * line) es) j m) (sym ne) (subst (Left (written cells (64 * line) es) (length es)) (sym me) all))
+      let all : Left after (length es) (counted h.tally) =
+      (sound_set cells h sound line there in_notes es short (counted h.tally) kept, turn, rest_kept cells h sound line there in_notes es short (counted h.tally)) in
+      subst (λ ys. Left ys n m) (sym xe) (subst (λ j. Left after j m) (sym ne) (subst (Left after (length es)) (sym me) all))

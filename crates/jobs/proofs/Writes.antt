@@ -2,7 +2,8 @@
 use Rattle.std.proofs.Common.{◌≡◌, ℕ, suc, ◌+◌, ◌-◌, ◌<◌, ◌≤◌, List, [], ◌∷◌, ◌++◌, length, take, drop, set, sym, refl, ap, ◌∙◌, ap₂, append_assoc, arith, take-add}
 use lib.Seq.{paste}
 use Rattle.std.proofs.lemmas.List.{length-append, length-take-le, length-drop, take-append-drop, take_at, drop_at, take-take, drop-drop, drop-take, set_split}
-use Rattle.jobs.specs.Lines.{part, written}
+use Rattle.jobs.specs.Lines.{part}
+use Rattle.jobs.specs.Edits.{written}
 
 module _ {X : Type 0} where
   module _ (xs : List X) (a : ℕ) (ys : List X) (fits : a + length ys ≤ length xs) where

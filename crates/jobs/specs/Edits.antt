@@ -1,5 +1,5 @@
 -- How the pieces of a line change where a reading is set on a stretch.
-use Rattle.std.specs.Prelude.{◌≡◌, ℕ, suc, ◌+◌, ◌-◌, cond, List, [], ◌∷◌, ◌++◌, length, take, drop, Some, None, Option, ◌≢◌, nat_lt}
+use Rattle.std.specs.Prelude.{◌≡◌, ℕ, ◌+◌, ◌-◌, List, [], ◌∷◌, ◌++◌, length, take, drop, Some, None, Option, ◌≢◌}
 use Rattle.pieces.specs.declared.piece.Piece.{Piece}
 use Rattle.pieces.specs.Pieces.{last_from}
 use Rattle.meaning.specs.declared.reading.Reading.{Reading}
@@ -7,14 +7,13 @@ use Rattle.meaning.specs.Readings.{entered}
 use Rattle.runs.specs.States.{reading_at}
 use Rattle.jobs.specs.declared.edit.Edit.{Edit}
 
+-- ys written over the cells from base on
+abbrev pub written : {X : Type 0} → List X → ℕ → List X → List X
+written cells base ys = take base cells ++ (ys ++ drop (base + length ys) cells)
+
 -- what the pieces read, with p set from one tick to the tick before another
 abbrev pub set_on : List (Piece Reading) → ℕ → ℕ → Reading → ℕ → Reading
 set_on ps from to p = entered (λ line. reading_at ps) 0 from to p 0
-
--- how many pieces at the front start before t
-abbrev pub lead : ℕ → List (Piece Reading) → ℕ
-lead t [] = 0
-lead t (p ∷ ps) = cond (nat_lt p.start t) (suc (lead t ps)) 0
 
 -- a piece with the value v from t on; none where v is joined to the same value before it
 abbrev pub Joins : ℕ → Reading → Reading → Option (Piece Reading) → Type 0
@@ -35,5 +34,5 @@ abbrev pub edited : List (Piece Reading) → Edit → List (Piece Reading)
 edited ps e = take e.keep ps ++ (optional e.first ++ (optional e.second ++ drop e.skip ps))
 
 -- how many they are then, of n before
-abbrev pub size_after_lem : Edit → ℕ → ℕ
-size_after_lem e n = e.keep + length (optional e.first) + length (optional e.second) + (n - e.skip)
+abbrev pub edited_size : Edit → ℕ → ℕ
+edited_size e n = e.keep + length (optional e.first) + length (optional e.second) + (n - e.skip)

@@ -1,37 +1,9 @@
--- An entry on its way: what has been seen to hold of it, and which cells it may change.
-use Rattle.std.specs.Prelude.{◌≡◌, ℕ, ◌+◌, ◌*◌, ◌<◌, ◌≤◌, Bool, true, false, List, length, take, drop, ℤ, Some, Ok, Err, Result}
-use Rattle.meaning.specs.declared.reading.Reading.{Reading}
-use Rattle.meaning.specs.Readings.{Reads, Within}
-use Rattle.runs.specs.States.{State, readings_of}
-use Rattle.runs.specs.Conditions.{FirstFailing}
-use Rattle.runs.specs.Jobs.{enter_asks}
+-- Which cells an entry may change.
+use Rattle.std.specs.Prelude.{◌≡◌, ℕ, ◌+◌, ◌*◌, List, take, drop, Ok, Err, Result}
+use Rattle.runs.specs.Bounds.{line_cells}
 use Rattle.jobs.specs.declared.fault.EnterFault.{EnterFault}
-use Rattle.jobs.specs.declared.fault.EnterFault.TheVariants.{Sealed, NoSuchLine, BadStretch, NotReading, NotInside, TooManyPieces}
-use Rattle.jobs.specs.Faults.{fault_number}
 
--- the job is not sealed, it has the line, and the ticks are a stretch; or the first of these that fails
-abbrev pub Barred : Bool → ℕ → ℕ → ℕ → ℕ → Result (Unit {0}) EnterFault → Type 0
-Barred sealed lines line from to (Ok u) = (sealed ≡ false) × (line < lines) × (from < to) × (to ≤ 1000000001)
-Barred sealed lines line from to (Err Sealed) = sealed ≡ true
-Barred sealed lines line from to (Err NoSuchLine) = (sealed ≡ false) × (lines ≤ line)
-Barred sealed lines line from to (Err BadStretch) = (sealed ≡ false) × (line < lines) × ((from < to) × (to ≤ 1000000001) → ⊥)
-Barred sealed lines line from to (Err NotReading) = ⊥
-Barred sealed lines line from to (Err NotInside) = ⊥
-Barred sealed lines line from to (Err TooManyPieces) = ⊥
-
--- the first five conditions hold of the entry of p
-pub record Ready (s : State) (line from to : ℕ) (p : Reading) : Type 0 where
-  pub unsealed : s.sealed ≡ false
-  pub there : line < length s.lines
-  pub stretch : (from < to) × (to ≤ 1000000001)
-  pub narrows : (u : ℕ) → from ≤ u → u < to → Within p (readings_of s line u)
-
--- the reading to be entered, or the number of the condition that fails
-abbrev pub Checked : State → ℕ → ℕ → ℕ → ℤ → ℤ → Result Reading EnterFault → Type 0
-Checked s line from to lower upper (Ok p) = Reads lower upper (Some p) × Ready s line from to p
-Checked s line from to lower upper (Err e) = FirstFailing (enter_asks s line from to lower upper) (Some (fault_number e))
-
--- an accepted entry changes none but its line's 64 cells, and one that is turned down changes none
+-- an accepted entry changes none but its line's cells, and one that is turned down changes none
 abbrev pub Changes : {X : Type 0} → ℕ → List X → List X → Result (Unit {0}) EnterFault → Type 0
-Changes line before after (Ok u) = (take (64 * line) after ≡ take (64 * line) before) × (drop (64 * line + 64) after ≡ drop (64 * line + 64) before)
+Changes line before after (Ok u) = (take (line_cells * line) after ≡ take (line_cells * line) before) × (drop (line_cells * line + line_cells) after ≡ drop (line_cells * line + line_cells) before)
 Changes line before after (Err e) = after ≡ before

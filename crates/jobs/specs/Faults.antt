@@ -5,9 +5,12 @@ use Rattle.jobs.specs.declared.fault.EnterFault.{EnterFault}
 use Rattle.jobs.specs.declared.fault.EnterFault.TheVariants.{Sealed, NoSuchLine, BadStretch, NotReading, NotInside, TooManyPieces}
 use Rattle.jobs.specs.declared.fault.NoSuchLine.{NoSuchLine as NoLine}
 
+abbrev pub missing_line_number : NoLine → ℕ
+missing_line_number e = 2
+
 abbrev pub fault_number : EnterFault → ℕ
 fault_number Sealed = 1
-fault_number NoSuchLine = 2
+fault_number NoSuchLine = missing_line_number (record {})
 fault_number BadStretch = 3
 fault_number NotReading = 4
 fault_number NotInside = 5
@@ -19,4 +22,4 @@ enter_reply (Err e) = Err (fault_number e)
 
 abbrev pub known_reply : Result ℕ NoLine → Result JobAnswer ℕ
 known_reply (Ok t) = Ok (first_unknown t)
-known_reply (Err e) = Err 2
+known_reply (Err e) = Err (missing_line_number e)

@@ -5,7 +5,7 @@ use Rattle.pieces.specs.Ticks.{Steady, Changed}
 use Rattle.meaning.specs.declared.reading.Reading.{Reading}
 use Rattle.runs.specs.States.{State, readings_of}
 use Rattle.jobs.specs.declared.job.Job.{Job}
-use Rattle.jobs.specs.Holds.{held_state}
+use Rattle.jobs.specs.Lines.{held_state}
 
 abbrev pub cells_of : Job → List (Piece Reading)
 cells_of j = j.cells.now

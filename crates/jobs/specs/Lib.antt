@@ -1,6 +1,7 @@
 pub mod Lines
-pub mod Holds
-pub mod Edits
-pub mod Faults
-pub mod Entries
 pub mod Jobs
+pub mod Entries
+pub mod Faults
+pub mod Holds
+pub mod Checks
+pub mod Edits

@@ -1,41 +1,23 @@
--- The lines of a job as they lie in lent cells, 64 cells to a line, and what always holds of them.
-use Rattle.std.specs.Prelude.{◌≡◌, ℕ, ◌+◌, ◌*◌, ◌<◌, ◌≤◌, Bool, List, ◌++◌, map, length, take, drop, slice_index}
+-- The lines of a job as they lie in lent cells, and the state that they make.
+use Rattle.std.specs.Prelude.{ℕ, ◌*◌, List, map, take, drop, slice_index_or}
 use Rattle.std.specs.List.{range_with_len}
 use Rattle.pieces.specs.declared.piece.Piece.{Piece}
-use Rattle.pieces.specs.Pieces.{Canonical}
 use Rattle.meaning.specs.declared.reading.Reading.{Reading}
-use Rattle.meaning.specs.Readings.{widest}
-use Rattle.runs.specs.States.{State, reading_at}
+use Rattle.runs.specs.Bounds.{line_cells}
+use Rattle.runs.specs.States.{State}
+use Rattle.jobs.specs.declared.held.Held.{Held}
 
 -- the n cells from base on
 abbrev pub part : {X : Type 0} → List X → ℕ → ℕ → List X
 part cells base n = take n (drop base cells)
 
--- ys written over the cells from base on
-abbrev pub written : {X : Type 0} → List X → ℕ → List X → List X
-written cells base ys = take base cells ++ (ys ++ drop (base + length ys) cells)
+-- how many pieces line k has
+abbrev pub noted_count : Held → ℕ → ℕ
+noted_count h k = (slice_index_or h.notes k (record { count = 0 })).count
 
--- the pieces of line k, of which there are as many as the k-th count says
-abbrev pub pieces_at : List (Piece Reading) → List ℕ → ℕ → List (Piece Reading)
-pieces_at cells counts k = part cells (64 * k) (slice_index counts k)
+-- the pieces of line k
+abbrev pub held_pieces : List (Piece Reading) → Held → ℕ → List (Piece Reading)
+held_pieces cells h k = part cells (line_cells * k) (noted_count h k)
 
--- the job as a state
-abbrev pub state_from : List (Piece Reading) → ℕ → List ℕ → ℕ → Bool → State
-state_from cells lines counts tally sealed = record { lines = map (pieces_at cells counts) (range_with_len 0 lines); tally = tally; sealed = sealed }
-
--- the pieces are a list that is kept of some readings, and nothing is known from tick 1,000,000,001 on
-abbrev pub Kept : List (Piece Reading) → Type 0
-Kept ps = Canonical ps × ((t : ℕ) → 1000000001 ≤ t → reading_at ps t ≡ widest)
-
-abbrev pub Short : ℕ → List ℕ → Type 0
-Short lines counts = (k : ℕ) → k < lines → slice_index counts k ≤ 64
-
-abbrev pub AllKept : List (Piece Reading) → ℕ → List ℕ → Type 0
-AllKept cells lines counts = (k : ℕ) → k < lines → Kept (pieces_at cells counts k)
-
--- what a job promises of what it holds
-pub record Sound (cells : List (Piece Reading)) (lines : ℕ) (counts : List ℕ) : Type 0 where
-  pub few : lines ≤ 16
-  pub room : 64 * lines ≤ length cells
-  pub short : Short lines counts
-  pub kept : ∥ AllKept cells lines counts ∥₁
+abbrev pub held_state : List (Piece Reading) → Held → State
+held_state cells h = record { lines = map (held_pieces cells h) (range_with_len 0 h.lines); tally = h.tally; sealed = h.sealed }

@@ -7,6 +7,7 @@ ghost use Rattle.jobs.specs.Jobs.{state_of, cells_of, SameLoan, Looked};
 
 use crate::fault::{EnterFault, NoSuchLine};
 use crate::job::Job;
+use crate::look::first_wide;
 use crate::stretch::Stretch;
 use meaning::reading::Reading;
 
@@ -24,7 +25,7 @@ impl<'a> Job<'a> {
         if line as usize >= self.held.lines {
             return None;
         }
-        Some(self.held.line(self.cells, line as usize).list().lookup(t))
+        Some(self.held.line(self.cells, line as usize).lookup(t))
     }
 
     // Sets a reading from one tick to the tick before another, where it narrows what stands there.
@@ -57,7 +58,7 @@ impl<'a> Job<'a> {
         if line as usize >= self.held.lines {
             return Err(NoSuchLine);
         }
-        Ok(self.held.line(self.cells, line as usize).first_wide())
+        Ok(first_wide(&self.held.line(self.cells, line as usize)))
     }
 
     // How many entries were accepted.

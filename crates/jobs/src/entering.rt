@@ -1,29 +1,27 @@
 // Entering readings.
 ghost use Rattle.std.specs.Prelude.{◌<◌};
 ghost use Rattle.runs.specs.Jobs.{JobTurn, enter};
-ghost use Rattle.jobs.specs.Holds.{held_state, HeldSound};
+ghost use Rattle.jobs.specs.Checks.{Barred, Ready, Checked};
+ghost use Rattle.jobs.specs.Entries.{Changes};
 ghost use Rattle.jobs.specs.Faults.{enter_reply};
-ghost use Rattle.jobs.specs.Entries.{Barred, Ready, Checked, Changes};
+ghost use Rattle.jobs.specs.Holds.{HeldSound};
 ghost use Rattle.jobs.specs.Jobs.{state_of};
+ghost use Rattle.jobs.specs.Lines.{held_state};
 
 use crate::fault::EnterFault;
-use crate::held::{Held, LINE_CELLS};
+use crate::held::{Held, LineNote, LAST_END, LINE_CELLS};
 use crate::job::Job;
+use crate::look::narrows;
+use crate::plan::plan;
 use crate::splice::{size_after, splice};
 use crate::stretch::Stretch;
 use meaning::reading::Reading;
 use pieces::piece::Piece;
 
-// The last tick at which an entry may end.
-const END: u32 = 1_000_000_001;
-
-// The most pieces that a line may have.
-const ROOM: usize = LINE_CELLS;
-
 impl Held {
     // What stands against an entry whatever is read: the job, the line or the ticks.
     fn barred(&self, stretch: Stretch) -> Result<(), EnterFault>
-        ensures { Barred self.now.sealed self.now.lines stretch.line stretch.from stretch.to result }
+        ensures { Barred self.now stretch.line stretch.from stretch.to result }
     {
         if self.sealed {
             return Err(EnterFault::Sealed);
@@ -31,7 +29,7 @@ impl Held {
         if stretch.line >= self.lines {
             return Err(EnterFault::NoSuchLine);
         }
-        if stretch.from >= stretch.to || stretch.to > END {
+        if stretch.from >= stretch.to || stretch.to > LAST_END {
             return Err(EnterFault::BadStretch);
         }
         Ok(())
@@ -52,16 +50,14 @@ impl Held {
         ensures cells { Changes stretch.line cells.old cells.new result }
     {
         let line = stretch.line;
-        let edit = self
-            .line(cells, line)
-            .plan(stretch.from, stretch.to, reading);
-        let count = self.counts[line];
+        let edit = plan(&self.line(cells, line), stretch.from, stretch.to, reading);
+        let count = self.notes[line].count;
         let size = size_after(edit, count);
-        if size > ROOM {
+        if size > LINE_CELLS {
             return Err(EnterFault::TooManyPieces);
         }
         splice(cells, LINE_CELLS * line, count, edit);
-        self.counts[line] = size;
+        self.notes[line] = LineNote { count: size };
         self.tally = self.tally.saturating_add(1);
         Ok(())
     }
@@ -82,7 +78,7 @@ impl<'a> Job<'a> {
             return Err(EnterFault::NotReading);
         };
         let line = self.held.line(self.cells, stretch.line);
-        if !line.narrows(stretch.from, stretch.to, reading) {
+        if !narrows(&line, stretch.from, stretch.to, reading) {
             return Err(EnterFault::NotInside);
         }
         Ok(reading)

@@ -1,6 +1,5 @@
 // A job over lent cells.
-ghost use Rattle.std.specs.Prelude.{◌*◌, ◌≤◌, length};
-ghost use Rattle.jobs.specs.Lines.{Short, AllKept};
+ghost use Rattle.jobs.specs.Holds.{HeldSound};
 
 use crate::held::Held;
 use meaning::reading::Reading;
@@ -12,8 +11,5 @@ use pieces::piece::Piece;
 pub struct Job<'a> {
     pub(crate) cells: &'a mut [Piece<Reading>],
     pub(crate) held: Held,
-    ghost few: { held.lines ≤ 16 },
-    ghost room: { 64 * held.lines ≤ length cells.now },
-    ghost short: { Short held.lines held.counts },
-    ghost kept: { ∥ AllKept cells.now held.lines held.counts ∥₁ },
+    ghost sound: { HeldSound cells.now held },
 }

@@ -7,7 +7,6 @@ mod entering;
 pub mod fault;
 mod held;
 pub mod job;
-mod line;
 mod look;
 pub mod number;
 pub mod opening;

@@ -1,6 +1,6 @@
 // The numbers by which users know the refusals.
 ghost use Rattle.std.specs.Prelude.{◌≡◌};
-ghost use Rattle.jobs.specs.Faults.{fault_number};
+ghost use Rattle.jobs.specs.Faults.{fault_number, missing_line_number};
 
 use crate::fault::{EnterFault, NoSuchLine};
 
@@ -10,7 +10,7 @@ impl EnterFault {
     {
         match self {
             EnterFault::Sealed => 1,
-            EnterFault::NoSuchLine => 2,
+            EnterFault::NoSuchLine => NoSuchLine.number(),
             EnterFault::BadStretch => 3,
             EnterFault::NotReading => 4,
             EnterFault::NotInside => 5,
@@ -21,7 +21,7 @@ impl EnterFault {
 
 impl NoSuchLine {
     pub fn number(self) -> u8
-        ensures { result ≡ 2 }
+        ensures { result ≡ missing_line_number self }
     {
         2
     }

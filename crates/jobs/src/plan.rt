@@ -1,11 +1,11 @@
 // Planning how a line's pieces change where a reading is set.
 ghost use Rattle.std.specs.Prelude.{◌≡◌, ◌+◌, ◌<◌, ◌≤◌, length, take};
-ghost use Rattle.pieces.specs.Pieces.{Lists};
-ghost use Rattle.jobs.specs.Edits.{lead, Joins, Follows, set_on, edited};
+ghost use Rattle.pieces.specs.Pieces.{count_before, Canonical, Lists};
+ghost use Rattle.jobs.specs.Edits.{Joins, Follows, set_on, edited};
 
 use crate::edit::Edit;
-use crate::line::Line;
 use meaning::reading::Reading;
+use pieces::list::PieceList;
 use pieces::piece::Piece;
 
 // A piece with the value, unless the same value stands before it: the two are joined then.
@@ -35,38 +35,29 @@ fn following(
     unless_same(start, value, pieces[keep - 1].value)
 }
 
-impl<'a> Line<'a> {
-    // How many pieces at the front start before t.
-    fn leading(&self, t: u64) -> usize
-        ensures { result ≡ lead t self.now.pieces.now }
-    {
-        self.pieces
-            .partition_point(|piece| (piece.start as u64) < t)
-    }
+// How many pieces start before the stretch, and how many at its end or before.
+fn touched(line: &PieceList<'_, Reading>, from: u32, to: u32) -> (usize, usize)
+    requires { from < to }
+    ensures low { result.0 ≡ count_before from line.now.pieces.now }
+    ensures high { result.1 ≡ count_before (to + 1) line.now.pieces.now }
+    ensures order { (result.0 ≤ result.1) × (0 < result.1) × (result.1 ≤ length line.now.pieces.now) }
+{
+    (line.started_before(from as u64), line.started(to as u64))
+}
 
-    // How many pieces start before the stretch, and how many at its end or before.
-    fn touched(&self, from: u32, to: u32) -> (usize, usize)
-        requires { from < to }
-        ensures low { result.0 ≡ lead from self.now.pieces.now }
-        ensures high { result.1 ≡ lead (to + 1) self.now.pieces.now }
-        ensures order { (result.0 ≤ result.1) × (0 < result.1) × (result.1 ≤ length self.now.pieces.now) }
-    {
-        (self.leading(from as u64), self.leading(to as u64 + 1))
-    }
-
-    // The pieces that start before the stretch stay, those that start in it or at its end go, and what was read at its end goes on from there.
-    pub(crate) fn plan(&self, from: u32, to: u32, value: Reading) -> Edit
-        requires { from < to }
-        ensures order { (result.keep ≤ result.skip) × (result.skip ≤ length self.now.pieces.now) }
-        ensures lists { Lists (set_on self.now.pieces.now from to value) (edited self.now.pieces.now result) }
-    {
-        let pieces = self.pieces;
-        let (keep, skip) = self.touched(from, to);
-        Edit {
-            keep,
-            first: following(pieces, keep, from, value),
-            second: unless_same(to, pieces[skip - 1].value, value),
-            skip,
-        }
+// The pieces that start before the stretch stay, those that start in it or at its end go, and what was read at its end goes on from there.
+pub(crate) fn plan(line: &PieceList<'_, Reading>, from: u32, to: u32, value: Reading) -> Edit
+    requires canonical { Canonical line.now.pieces.now }
+    requires order { from < to }
+    ensures order { (result.keep ≤ result.skip) × (result.skip ≤ length line.now.pieces.now) }
+    ensures lists { Lists (set_on line.now.pieces.now from to value) (edited line.now.pieces.now result) }
+{
+    let pieces = line.pieces;
+    let (keep, skip) = touched(line, from, to);
+    Edit {
+        keep,
+        first: following(pieces, keep, from, value),
+        second: unless_same(to, pieces[skip - 1].value, value),
+        skip,
     }
 }

@@ -1,7 +1,8 @@
 // Making an edit in place.
 ghost use Rattle.std.specs.Prelude.{◌≡◌, ◌+◌, ◌≤◌, length};
-ghost use Rattle.jobs.specs.Lines.{part, written};
-ghost use Rattle.jobs.specs.Edits.{optional, edited, size_after_lem};
+ghost use Rattle.runs.specs.Bounds.{line_cells};
+ghost use Rattle.jobs.specs.Lines.{part};
+ghost use Rattle.jobs.specs.Edits.{written, optional, edited, edited_size};
 
 use crate::edit::Edit;
 use meaning::reading::Reading;
@@ -33,8 +34,8 @@ fn put(cells: &mut [Piece<Reading>], at: usize, piece: Option<Piece<Reading>>) -
 // How many pieces there are once the edit is made on `count` of them.
 pub(crate) fn size_after(edit: Edit, count: usize) -> usize
     requires order { (edit.keep ≤ edit.skip) × (edit.skip ≤ count) }
-    requires short { count ≤ 64 }
-    ensures { result ≡ size_after_lem edit count }
+    requires short { count ≤ line_cells }
+    ensures { result ≡ edited_size edit count }
 {
     edit.keep + size(edit.first) + size(edit.second) + (count - edit.skip)
 }
@@ -43,7 +44,7 @@ pub(crate) fn size_after(edit: Edit, count: usize) -> usize
 pub(crate) fn splice(cells: &mut [Piece<Reading>], base: usize, count: usize, edit: Edit)
     requires order { (edit.keep ≤ edit.skip) × (edit.skip ≤ count) }
     requires before { base + count ≤ length cells.old }
-    requires after { base + size_after_lem edit count ≤ length cells.old }
+    requires after { base + edited_size edit count ≤ length cells.old }
     ensures { cells.new ≡ written cells.old base (edited (part cells.old base count) edit) }
 {
     let at = base + edit.keep;

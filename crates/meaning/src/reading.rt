@@ -3,6 +3,7 @@ ghost use Rattle.std.specs.Prelude.{◌≡◌, ◌≤ℤ◌};
 ghost use Rattle.rules.specs.Rows.{NumberFits};
 
 pub mod calls;
+pub mod same;
 
 // A lower and an upper whole number from -500,000 to 500,000; what is read is one of those between them, both counted.
 #[derive(Clone, Copy, PartialEq, Eq)]

@@ -8,3 +8,5 @@ pub mod Sweeps
 pub mod Behind
 pub mod Windows
 pub mod Exists
+pub mod Holders
+pub mod Firsts

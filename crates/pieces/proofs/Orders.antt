@@ -6,7 +6,7 @@ use Rattle.std.specs.List.Sorted.{IsNonDecreasingBy, IsPartitionPoint}
 use Rattle.pieces.specs.declared.piece.Piece.{Piece}
 use Rattle.pieces.specs.Pieces.{at_from, next_from, ordered, ascending, Found, Holds}
 
-cond-true : (b x : Bool) → cond b x false ≡ true → (b ≡ true) × (x ≡ true)
+pub cond-true : (b x : Bool) → cond b x false ≡ true → (b ≡ true) × (x ≡ true)
 cond-true true x e = (refl, e)
 cond-true false x e = absurd (clash e)
 
@@ -15,7 +15,7 @@ module _ {V : Type 0} where
   first [] e = absurd (clash e)
   first (x ∷ xs) e = (omega arith, λ d. eqb-true x.start 0 (cond-true (eqb x.start 0) (ascending 0 xs) e).0)
 
-  ascend : (p : Piece V) (ps : List (Piece V)) (j : ℕ) (d : Piece V) → ascending p.start ps ≡ true → j < length (p ∷ ps) → p.start ≤ (get_or (p ∷ ps) j d).start
+  pub ascend : (p : Piece V) (ps : List (Piece V)) (j : ℕ) (d : Piece V) → ascending p.start ps ≡ true → j < length (p ∷ ps) → p.start ≤ (get_or (p ∷ ps) j d).start
   ascend p ps zero d a h = omega arith
   ascend p [] (suc j) d a h = absurd (omega arith)
   ascend p (q ∷ qs) (suc j) d a h =

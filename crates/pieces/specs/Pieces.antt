@@ -1,5 +1,5 @@
 -- Piece lists, the function of ticks that one stands for, and the one list that is kept of such a function.
-use Rattle.std.specs.Prelude.{◌≡◌, ℕ, ◌+◌, ◌<◌, ◌≤◌, Bool, true, false, cond, List, [], ◌∷◌, Some, None, Option, ◌==◌, ◌≢◌, nat_le, nat_lt, length, slice_index_or}
+use Rattle.std.specs.Prelude.{◌≡◌, ℕ, zero, suc, ◌+◌, ◌<◌, ◌≤◌, Bool, true, false, cond, List, [], ◌∷◌, Some, None, Option, ◌==◌, ◌≢◌, nat_le, nat_lt, length, slice_index_or}
 use Rattle.std.specs.Coded.{×_prop, →_prop, Unit-prop, le_prop, Coded-set, coded_ℕ}
 use borrow.Author.Tests.{clash}
 use Rattle.pieces.specs.declared.piece.Piece.{Piece}
@@ -14,6 +14,17 @@ module _ {C : Type 0} where
   abbrev pub next_from : List (Piece C) → ℕ → Option ℕ
   next_from [] t = None
   next_from (p ∷ ps) t = cond (nat_le p.start t) (next_from ps t) (Some p.start)
+
+  -- how many pieces at the front start before t
+  abbrev pub count_before : ℕ → List (Piece C) → ℕ
+  count_before t [] = 0
+  count_before t (p ∷ ps) = cond (nat_lt p.start t) (suc (count_before t ps)) 0
+
+  -- the start of the piece at k, if there is one
+  abbrev pub start_of : List (Piece C) → ℕ → Option ℕ
+  start_of [] k = None
+  start_of (p ∷ ps) zero = Some p.start
+  start_of (p ∷ ps) (suc k) = start_of ps k
 
   -- the value of the last piece, and its start
   abbrev pub last_from : C → List (Piece C) → C

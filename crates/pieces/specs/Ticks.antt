@@ -34,3 +34,8 @@ sooner (Some m) (Some n) = Some (min m n)
 abbrev pub earlier : Option ℕ → ℕ → Option ℕ
 earlier None k = None
 earlier (Some n) k = Some (n - k)
+
+-- the first tick at which f is v; none where it never is
+abbrev pub FirstTick : {C : Type 0} → (ℕ → C) → C → Option ℕ → Type 0
+FirstTick f v None = (u : ℕ) → f u ≡ v → ⊥
+FirstTick f v (Some t) = (f t ≡ v) × ((u : ℕ) → u < t → f u ≡ v → ⊥)

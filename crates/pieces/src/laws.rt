@@ -1,5 +1,5 @@
 // What holds of every piece list. Each function carries one law and does nothing.
-ghost use Rattle.pieces.specs.Laws.{OnlyOne, Extends, NextChange};
+ghost use Rattle.pieces.specs.Laws.{OnlyOne, Extends, NextChange, OneHolder};
 
 use crate::same::Same;
 
@@ -16,4 +16,9 @@ pub fn short_cells_begin_it<V: Same>()
 // A look-up in that list tells the value and the tick where it next changes.
 pub fn lookup_tells_change<V: Same>()
     ensures { NextChange V.Same.Value }
+{}
+
+// Each tick is held by one piece of that list, the last that starts at the tick or before; the value there is that piece's, and it next changes where the piece behind it starts.
+pub fn one_piece_holds_a_tick<V: Same>()
+    ensures { OneHolder V.Same.Value }
 {}

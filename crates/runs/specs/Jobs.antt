@@ -4,6 +4,7 @@ use Rattle.pieces.specs.declared.piece.Piece.{Piece}
 use Rattle.pieces.specs.Pieces.{Lists}
 use Rattle.meaning.specs.declared.reading.Reading.{Reading}
 use Rattle.meaning.specs.Readings.{Readings, Ends, Reads, widest, Within, entered}
+use Rattle.runs.specs.Bounds.{line_cells, last_end}
 use Rattle.runs.specs.States.{State, readings_of}
 use Rattle.runs.specs.Conditions.{Condition, asks, FirstFailing}
 
@@ -27,14 +28,14 @@ module _ (s : State) (line from to : ℕ) (lower upper : ℤ) where
   abbrev pub Set : Reading → List (Piece Reading) → Type 0
   Set p ps = Reads lower upper (Some p) × Lists (entered (readings_of s) line from to p line) ps
 
-  -- the line has 64 pieces at most then
+  -- the line's cells suffice for its pieces then
   abbrev pub Room : Type 0
-  Room = (p : Reading) (ps : List (Piece Reading)) → Set p ps → length ps ≤ 64
+  Room = (p : Reading) (ps : List (Piece Reading)) → Set p ps → length ps ≤ line_cells
 
   -- numbers 1 to 6
   abbrev pub enter_asks : List Condition
   enter_asks =
-      asks 1 (s.sealed ≡ false) ∷ (asks 2 (line < length s.lines) ∷ (asks 3 ((from < to) × (to ≤ 1000000001)) ∷ (asks 4 (Ends lower upper) ∷ (asks 5 Narrows ∷ (asks 6 Room ∷ [])))))
+      asks 1 (s.sealed ≡ false) ∷ (asks 2 (line < length s.lines) ∷ (asks 3 ((from < to) × (to ≤ last_end)) ∷ (asks 4 (Ends lower upper) ∷ (asks 5 Narrows ∷ (asks 6 Room ∷ [])))))
 
 -- an accepted entry counts, up to where the tally rests
 abbrev pub counted : ℕ → ℕ

@@ -1,4 +1,5 @@
 pub mod Nearest
+pub mod Bounds
 pub mod States
 pub mod Conditions
 pub mod Jobs

@@ -5,6 +5,7 @@ use Rattle.pieces.specs.Pieces.{at_from}
 use Rattle.meaning.specs.declared.reading.Reading.{Reading}
 use Rattle.meaning.specs.Readings.{Readings, widest}
 use Rattle.runs.specs.Nearest.{low_end, high_end, low_fits, high_fits, ends_ordered}
+use Rattle.runs.specs.Bounds.{most_lines, line_cells}
 
 pub record State : Type 0 where
   pub lines : List (List (Piece Reading))
@@ -31,6 +32,6 @@ blank = record { start = 0; value = widest } ∷ []
 abbrev pub opened : ℕ → State
 opened n = record { lines = replicate n blank; tally = 0; sealed = false }
 
--- of the lines asked for there are at most 16, and at most one for each whole 64 cells
+-- a job has the lines asked for, but at most 16, and at most one for each whole 64 cells
 abbrev pub line_count : ℕ → ℕ → ℕ
-line_count asked cells = min asked (min 16 (cells / 64))
+line_count asked cells = min asked (min most_lines (cells / line_cells))

@@ -1,6 +1,5 @@
 use Rattle.std.proofs.Common.{◌≡◌, length, sym, ap, ◌∙◌, arith}
-use Rattle.jobs.specs.Lines.{written}
-use Rattle.jobs.specs.Edits.{optional}
+use Rattle.jobs.specs.Edits.{written, optional}
 use Rattle.jobs.proofs.Writes.{set_written, none_written}
 use Rattle.jobs.proofs.splice.put.Goals as goal
 

@@ -18,11 +18,5 @@ returns-in_err-reading c =
 pub write-requires : goal.write-requires
 write-requires c =
     let j = c.args.self.now in
-    let cells = j.cells.now in
-    let h = j.held in
     let ready = c.in_ok-reading.ensures.1 in
-    record {
-      sound = record { few = j.few; room = j.room; short = j.short; kept = j.kept };
-      there = omega (arith, ready.there, length_lines cells h.lines h.counts);
-      ready = ready;
-    }
+    record { sound = j.sound; there = omega (arith, ready.there, length_lines j.cells.now j.held); ready = ready }

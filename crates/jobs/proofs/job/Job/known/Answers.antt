@@ -8,7 +8,7 @@ pub returns-then-line-self : goal.returns-then-line-self
 returns-then-line-self c =
     let cells = c.args.self.now.cells.now in
     let h = c.args.self.now.held in
-    (inl (λ l. omega (arith, length_lines cells h.lines h.counts), refl), refl)
+    (inl (λ l. omega (arith, length_lines cells h), refl), refl)
 
 pub first_wide-requires : goal.first_wide-requires
 first_wide-requires c = c.line.ensures.kept
@@ -18,8 +18,7 @@ returns c =
     let cells = c.args.self.now.cells.now in
     let h = c.args.self.now.held in
     let k = c.args.line in
-    let e = line_at cells h.lines h.counts k c.if-line-self.false ∙ sym c.line.ensures.are in
-    let f = c.first_wide.ensures in (
-      inr (omega (arith, length_lines cells h.lines h.counts), refl),
-      (c.first_wide.result, (first_unknown_at (state_of c.args.self.now) k c.first_wide.result c.line.result.pieces.now e (f.here, f.before), refl, refl)),
+    let e = line_at cells h k c.if-line-self.false ∙ sym c.line.ensures.are in (
+      inr (omega (arith, length_lines cells h), refl),
+      (c.first_wide.result, (first_unknown_at (state_of c.args.self.now) k c.first_wide.result c.line.result.pieces.now e c.first_wide.ensures, refl, refl)),
     )

@@ -15,10 +15,12 @@ invariant_of-result c =
     let few : n ≤ 16 = search rules in
     let room : 64 * n ≤ length c.loop-k.cells = search rules in
     record {
-      few = few;
-      room = room;
-      short = λ k h. omega (arith, one_each n few k h);
-      kept = ∣ blank_kept c.args.cells.now c.loop-k.cells n c.loop-k.k (omega arith) c.loop-k.invariant few room ∣₁;
+      sound = record {
+        few = few;
+        room = room;
+        short = λ k h. omega (arith, one_each n few k h);
+        kept = ∣ blank_kept c.args.cells.now c.loop-k.cells n c.loop-k.k (omega arith) c.loop-k.invariant few room ∣₁;
+      };
     }
 
 pub returns : goal.returns
