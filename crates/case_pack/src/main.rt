@@ -5,13 +5,21 @@ use case_text::{PackFault, pack};
 use std::alloc::AllocError;
 use std::io;
 use std::io::{Read, Write};
+use std::process::ExitCode;
 
-fn main(rt: HostRuntime) -> io::Result<()> {
+// Ends with status 1 where a line is bad.
+fn main(rt: HostRuntime) -> io::Result<ExitCode> {
     let mut text: Vec<u8> = Vec::new(rt.alloc());
     let _ = rt.stdin().read_to_end(&mut text)?;
     match pack(text.as_slice(), rt.alloc()) {
-        Ok(case) => rt.stdout().write_all(case.as_slice()),
-        Err(PackFault::BadLine { number }) => eprintln!(rt; "bad line {number}"),
+        Ok(case) => {
+            rt.stdout().write_all(case.as_slice())?;
+            Ok(ExitCode::SUCCESS)
+        }
+        Err(PackFault::BadLine { number }) => {
+            eprintln!(rt; "bad line {number}")?;
+            Ok(ExitCode::FAILURE)
+        }
         Err(PackFault::NoMemory) => Err(io::Error::from(AllocError)),
     }
 }

@@ -1,10 +1,10 @@
 -- What a margin stands for goes by its number.
 use Rattle.std.proofs.Common.{◌≡◌, Bool, true, false, ℤ, sym, ap, ◌∙◌, arith}
 use Rattle.std.specs.Int.{int_min, int_max}
-use Rattle.std.proofs.lemmas.Int.{ints, clamps}
+use Rattle.std.proofs.lemmas.Int.{ints}
 use Rattle.grades.specs.Gaps.{GapFits}
 use Rattle.grades.specs.Kinds.{Tells}
-use Rattle.grades.specs.Margins.{margins, Level, clamped}
+use Rattle.grades.specs.Margins.{margins, Level, clamped_is}
 use Rattle.grades.specs.declared.margin.Margin.{Margin}
 use Rattle.grades.specs.Margins.{level_path}
 
@@ -18,7 +18,7 @@ pub upper_level : (p q r : Level) → r.number ≡ int_max p.number q.number →
 upper_level p q r e = level_path r (margins.join p q) (grind (arith, ints))
 
 pub gap_level : (z : ℤ) → GapFits z → (r : Level) → r.number ≡ z → r ≡ margins.of_gap z
-gap_level z h r e = let c : clamped z ≡ z = omega (arith, ints, clamps) in level_path r (margins.of_gap z) (e ∙ sym c)
+gap_level z h r e = level_path r (margins.of_gap z) (e ∙ sym (clamped_is z h))
 
 number_of : (p q : Level) → p ≡ q → p.number ≡ q.number
 number_of p q e = ap (λ (l : Level). l.number) e

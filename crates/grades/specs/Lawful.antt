@@ -1,10 +1,11 @@
 -- Truths and margins keep the laws.
 use Rattle.std.specs.Prelude.{◌≡◌, Bool, true, false, not, ◌&&◌, ◌||◌, T, ℤ, pos, negsuc, ◌≤ℤ◌, int_le, refl}
-use Rattle.std.proofs.Common.{arith, le→leb, zero-le}
-use Rattle.std.proofs.lemmas.Int.{ints, clamps}
+use Rattle.std.proofs.Common.{le→leb, zero-le}
+use Rattle.std.specs.Int.Signed.{≤ℤ_refl}
 use Rattle.grades.specs.Kinds.{Lawful}
 use Rattle.grades.specs.Truths.{truths, Implied}
-use Rattle.grades.specs.Margins.{level_path, margins}
+use Rattle.grades.specs.Wholes.{at_most_trans, at_most_both, turned_twice, turned_below, lower_left, lower_right, lower_most, upper_left, upper_right, upper_least}
+use Rattle.grades.specs.Margins.{level_number, level_path, clamped_rises, margins}
 
 implied_refl : (x : Bool) → Implied x x
 implied_refl true = tt
@@ -88,18 +89,18 @@ truths_lawful = record {
 
 pub margins_lawful : Lawful margins
 margins_lawful = record {
-  below_refl = λ x. omega (arith, ints);
-  below_trans = λ x y z h k. omega (arith, ints);
-  below_antisym = λ x y h k. level_path x y (omega (arith, ints));
-  meet_left = λ x y. grind (arith, ints);
-  meet_right = λ x y. grind (arith, ints);
-  meet_most = λ x y z h k. grind (arith, ints);
-  join_left = λ x y. grind (arith, ints);
-  join_right = λ x y. grind (arith, ints);
-  join_least = λ x y z h k. grind (arith, ints);
-  opposite_twice = λ x. level_path _ _ (omega (arith, ints));
-  opposite_turns = λ x y h. omega (arith, ints);
-  lowest_below = λ x. omega (arith, ints);
-  highest_above = λ x. omega (arith, ints);
-  gap_rises = λ p q _ _ h. omega (arith, ints, clamps);
+  below_refl = λ x. ≤ℤ_refl x.number;
+  below_trans = λ x y z h k. at_most_trans x.number y.number z.number h k;
+  below_antisym = λ x y h k. level_path x y (at_most_both x.number y.number h k);
+  meet_left = lower_left level_number;
+  meet_right = lower_right level_number;
+  meet_most = λ x y z h k. lower_most level_number x y z.number h k;
+  join_left = upper_left level_number;
+  join_right = upper_right level_number;
+  join_least = λ x y z h k. upper_least level_number x y z.number h k;
+  opposite_twice = λ x. level_path _ _ (turned_twice x.number);
+  opposite_turns = λ x y h. turned_below x.number y.number h;
+  lowest_below = λ x. x.ok.0;
+  highest_above = λ x. x.ok.1;
+  gap_rises = λ p q _ _ h. clamped_rises p q h;
 }

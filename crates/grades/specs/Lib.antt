@@ -1,4 +1,5 @@
 pub mod Gaps
+pub mod Wholes
 pub mod Kinds
 pub mod Ranges
 pub mod Truths

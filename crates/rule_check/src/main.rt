@@ -2,12 +2,16 @@
 #![tactic(auto)]
 
 ghost use Rattle.std.specs.Prelude.{◌≡◌, MatchResult};
+ghost use Rattle.std.specs.Process.{exit_status};
 ghost use Rattle.rule_check.specs.Reading.{Hears, HearsOn};
 
 use rule_lines::input::Input;
 use rule_lines::listing::Listing;
+use rules::fault::RuleFault;
+use rules::rule::Rule;
 use std::io;
 use std::io::Read;
+use std::process::ExitCode;
 
 // How much of the input is read at a time.
 const CHUNK_BYTES: usize = 4096;
@@ -35,9 +39,21 @@ fn hear_out(source: &mut impl Read, input: &mut Input) -> io::Result<()>
     Ok(())
 }
 
-fn main(rt: HostRuntime) -> io::Result<()> {
+// 0 where there is a rule, and 1 where it is refused.
+fn status_of(answer: Result<Rule, RuleFault>) -> ExitCode
+    ensures { MatchResult answer (λ _. exit_status result ≡ 0) (λ _. exit_status result ≡ 1) }
+{
+    match answer {
+        Ok(_) => ExitCode::SUCCESS,
+        Err(_) => ExitCode::FAILURE,
+    }
+}
+
+fn main(rt: HostRuntime) -> io::Result<ExitCode> {
     let mut input = Input::new();
     hear_out(&mut rt.stdin(), &mut input)?;
-    let listing = Listing(input.answer());
-    print!(rt; "{listing}")
+    let answer = input.answer();
+    let listing = Listing(answer);
+    print!(rt; "{listing}")?;
+    Ok(status_of(answer))
 }
