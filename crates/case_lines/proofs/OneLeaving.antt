@@ -4,7 +4,7 @@ use Rattle.grades.specs.Kinds.{Kind}
 use Rattle.grades.specs.Ranges.{Span}
 use Rattle.grades.specs.Margins.{margins}
 use Rattle.grades.specs.Truths.{truths}
-use Rattle.grades.specs.Worth.{worth}
+use Rattle.grades.specs.Worth.{worth, truth_value, margin_level}
 use Rattle.grades.specs.declared.margin.Margin.{Margin}
 use Rattle.grades.specs.declared.range.Range.{Range}
 use Rattle.grades.specs.declared.truth.Truth.{Truth}
