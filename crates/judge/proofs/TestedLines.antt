@@ -10,7 +10,7 @@ use Rattle.rules.specs.Rows.{row_at}
 use Rattle.pieces.specs.Ticks.{Steady}
 use Rattle.meaning.specs.declared.reading.Reading.{Reading}
 use Rattle.meaning.specs.Readings.{widest}
-use Rattle.meaning.specs.Marks.{Tests}
+use Rattle.rules.specs.Tested.{Tests}
 use Rattle.runs.specs.States.{State, reading_at, readings_of}
 use Rattle.jobs.specs.Jobs.{Looked}
 use Rattle.judge.proofs.Anys.{tells_from}

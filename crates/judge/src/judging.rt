@@ -3,7 +3,7 @@ ghost use Rattle.std.specs.Prelude.{◌≡◌, ℕ, ◌<◌, ◌≤◌, length};
 ghost use Rattle.grades.specs.Kinds.{Tells};
 ghost use Rattle.rules.specs.Rows.{row_at};
 ghost use Rattle.rules.specs.Texts.{table_of};
-ghost use Rattle.meaning.specs.Marks.{Tests};
+ghost use Rattle.rules.specs.Tested.{Tests};
 ghost use Rattle.runs.specs.States.{readings_of};
 ghost use Rattle.runs.specs.Calls.{JudgeTurn};
 ghost use Rattle.jobs.specs.Jobs.{state_of};
