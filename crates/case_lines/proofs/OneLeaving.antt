@@ -29,9 +29,9 @@ use Rattle.judge.specs.declared.fault.MarkFault.{MarkFault}
 use Rattle.judge.specs.declared.fault.MarkFault.TheVariants.{Judging, WantCells, MarkCells}
 use Rattle.judge.specs.declared.marking.Marking.{Marking}
 use Rattle.judge.specs.Faults.{judge_number, mark_number}
+use Rattle.judge.specs.Cells.{Complete, CutShort, BeginsWith, RunsOut}
+use Rattle.judge.specs.Markings.{WantsWritten, MarksWritten}
 use Rattle.judge.specs.Answers.{RefusedCells}
-use Rattle.judge.specs.Judges.{Complete, CutShort}
-use Rattle.judge.specs.Markings.{BeginsWith, RunsOut, WantsWritten, MarksWritten}
 use Rattle.judge.proofs.Pinned.{row_lists_one}
 use Rattle.cases.specs.declared.field.Entry.{Entry}
 use Rattle.cases.specs.Contents.{Item}

@@ -12,7 +12,8 @@ use Rattle.judge.specs.declared.fault.JudgeFault.{JudgeFault}
 use Rattle.judge.specs.declared.fault.JudgeFault.TheVariants.{NoSuchLine, LateTick, RowCells}
 use Rattle.judge.specs.declared.judgement.Judgement.{Judgement}
 use Rattle.judge.specs.Faults.{judge_number}
-use Rattle.judge.specs.Answers.{JudgedTable, RefusedCells}
+use Rattle.judge.specs.Judges.{JudgedTable}
+use Rattle.judge.specs.Answers.{RefusedCells}
 use Rattle.judge.proofs.Pinned.{complete_fits, cut_misfits}
 
 module _ (K : Kind) {G : Type 0} (val : G → K.Value) (s : State) (rows : List Row) (tick : ℕ) (before after : List (Piece (Range G))) where
