@@ -33,7 +33,7 @@ pub returns-clause-told : goal.returns-clause-told
 returns-clause-told c =
     let marked : Marking truths = record { verdict = worth truths truth_value c.in_ok-marking.marking.verdict; marks = take c.in_ok-marking.marking.marks c.mark.new.marks } in
     let turn = recounted truths (state_of c.args.job.now) (table_of c.args.rule.now) c.args.tick (length c.args.self.now.wants.now) (length c.args.self.now.marks.now) (Ok marked) c.judge.auto.cells c.in_ok-marking.ensures.turn in
-    let written = c.in_ok-marking.ensures.cells.1.1.1 in
+    let written = c.in_ok-marking.ensures.cells.2.1 in
     let line = λ (n : ℕ). verdict_line c.args.tick (outcome_at (worth truths truth_value c.in_ok-verdict.verdict)) c.in_ok-margin.margin.lower.number c.in_ok-margin.margin.upper.number n in
     λ k. verdict _ _ marked c.in_ok-verdict.ensures.turn c.in_ok-margin.ensures.turn turn (sym (counted line c.in_ok-marking.marking.marks c.mark.new.marks (omega (arith, written.1, written.2.fits, c.mark.auto.marks))))
 
