@@ -4,7 +4,7 @@ use Rattle.grades.specs.Kinds.{Kind}
 use Rattle.grades.specs.Ranges.{Span}
 use Rattle.grades.specs.Margins.{margins}
 use Rattle.grades.specs.Truths.{truths}
-use Rattle.grades.specs.Worth.{worth}
+use Rattle.grades.specs.Worth.{worth, truth_value, margin_level}
 use Rattle.grades.specs.declared.margin.Margin.{Margin}
 use Rattle.grades.specs.declared.range.Range.{Range}
 use Rattle.grades.specs.declared.truth.Truth.{Truth}
@@ -29,9 +29,8 @@ use Rattle.judge.specs.declared.fault.MarkFault.{MarkFault}
 use Rattle.judge.specs.declared.fault.MarkFault.TheVariants.{Judging, WantCells, MarkCells}
 use Rattle.judge.specs.declared.marking.Marking.{Marking}
 use Rattle.judge.specs.Faults.{judge_number, mark_number}
+use Rattle.judge.specs.Cells.{BeginsWith, RunsOut, Complete, CutShort, WantsComplete, WantsCut, MarksComplete, MarksCut}
 use Rattle.judge.specs.Answers.{RefusedCells}
-use Rattle.judge.specs.Judges.{Complete, CutShort}
-use Rattle.judge.specs.Markings.{BeginsWith, RunsOut, WantsWritten, MarksWritten}
 use Rattle.judge.proofs.Pinned.{row_lists_one}
 use Rattle.cases.specs.declared.field.Entry.{Entry}
 use Rattle.cases.specs.Contents.{Item}
@@ -138,22 +137,22 @@ told (Err f) = Some (mark_number f)
 module _ (rows : List Row) (s : State) (t : ℕ) where
   -- marking leaves one thing in the row cells, the want cells and the mark cells
   module _ (ranges a b : List (Piece (Range Truth))) (wants w v : List (Piece Bool)) (marks m n : List Mark) where
-    wants_done : (xs ys : List ℕ) → WantsWritten truths rows (readings_of s) t {E = ⊥} wants w (Ok xs) → WantsWritten truths rows (readings_of s) t {E = ⊥} wants v (Ok ys) → w ≡ v
-    wants_done xs ys h k =
+    wants_done : WantsComplete truths rows (readings_of s) t wants w → WantsComplete truths rows (readings_of s) t wants v → w ≡ v
+    wants_done h k =
         let same = one_want_lists truths rows (readings_of s) t k.0 h.0 k.1.0 h.1.0 in
         begun (all h.0) wants w v h.1.1 (subst (λ (wss : List (List (Piece Bool))). BeginsWith (all wss) wants v) same k.1.1)
 
-    wants_short : WantsWritten truths rows (readings_of s) t {E = Unit {0}} wants w (Err tt) → WantsWritten truths rows (readings_of s) t {E = Unit {0}} wants v (Err tt) → w ≡ v
+    wants_short : WantsCut truths rows (readings_of s) t wants w → WantsCut truths rows (readings_of s) t wants v → w ≡ v
     wants_short h k =
         let same = one_want_lists truths rows (readings_of s) t k.0 h.0 k.1.0 h.1.0 in
         run_out (all h.0) wants w v h.1.1 (subst (λ (wss : List (List (Piece Bool))). RunsOut (all wss) wants v) same k.1.1)
 
-    marks_done : (i j : ℕ) → MarksWritten truths rows (readings_of s) t {E = ⊥} marks m (Ok i) → MarksWritten truths rows (readings_of s) t {E = ⊥} marks n (Ok j) → m ≡ n
+    marks_done : (i j : ℕ) → MarksComplete truths rows (readings_of s) t marks m i → MarksComplete truths rows (readings_of s) t marks n j → m ≡ n
     marks_done i j h k =
         let same = lists_same {P = Marked truths rows (readings_of s) t} k.0 h.0 k.1.0 h.1.0 in
         begun h.0 marks m n h.1.2 (subst (λ (ms : List Mark). BeginsWith ms marks n) same k.1.2)
 
-    marks_short : MarksWritten truths rows (readings_of s) t {E = Unit {0}} marks m (Err tt) → MarksWritten truths rows (readings_of s) t {E = Unit {0}} marks n (Err tt) → m ≡ n
+    marks_short : MarksCut truths rows (readings_of s) t marks m → MarksCut truths rows (readings_of s) t marks n → m ≡ n
     marks_short h k =
         let same = lists_same {P = Marked truths rows (readings_of s) t} k.0 h.0 k.1.0 h.1.0 in
         run_out h.0 marks m n h.1.1 (subst (λ (ms : List Mark). RunsOut ms marks n) same k.1.1)
@@ -162,7 +161,7 @@ module _ (rows : List Row) (s : State) (t : ℕ) where
     ranges_done pss qss h k = complete_one rows s t truths truth_value truth_range_one ranges a b (readings_of s) pss qss h k
 
     by_told : (r q : Result (Marking Truth) MarkFault) → told r ≡ told q → MarksIn rows s t ranges a wants w marks m r → MarksIn rows s t ranges b wants v marks n q → (a ≡ b) × (w ≡ v) × (m ≡ n)
-    by_told (Ok x) (Ok y) e p q = let h = p.cells in let k = q.cells in (ranges_done h.0.0 k.0.0 h.0.1 k.0.1, wants_done h.1.0.0 k.1.0.0 h.1.0.1 k.1.0.1, marks_done x.marks y.marks h.1.1 k.1.1)
+    by_told (Ok x) (Ok y) e p q = let h = p.cells in let k = q.cells in (ranges_done h.0.0 k.0.0 h.0.1 k.0.1, wants_done h.1 k.1, marks_done x.marks y.marks h.2 k.2)
     by_told (Ok x) (Err g) e p q = absurd (none_some (mark_number g) e)
     by_told (Err f) (Ok y) e p q = absurd (none_some (mark_number f) (sym e))
     by_told (Err (Judging f)) (Err (Judging g)) e p q =
@@ -172,11 +171,11 @@ module _ (rows : List Row) (s : State) (t : ℕ) where
     by_told (Err (Judging f)) (Err WantCells) e p q = absurd (let d = same_some (judge_number f) 10 e in omega (arith, d, judging_below f))
     by_told (Err (Judging f)) (Err MarkCells) e p q = absurd (let d = same_some (judge_number f) 11 e in omega (arith, d, judging_below f))
     by_told (Err WantCells) (Err (Judging g)) e p q = absurd (let d = same_some 10 (judge_number g) e in omega (arith, d, judging_below g))
-    by_told (Err WantCells) (Err WantCells) e p q = let h = p.cells in let k = q.cells in (ranges_done h.0.0 k.0.0 h.0.1 k.0.1, wants_short h.1.0 k.1.0, h.1.1 ∙ sym k.1.1)
+    by_told (Err WantCells) (Err WantCells) e p q = let h = p.cells in let k = q.cells in (ranges_done h.0.0 k.0.0 h.0.1 k.0.1, wants_short h.1 k.1, h.2 ∙ sym k.2)
     by_told (Err WantCells) (Err MarkCells) e p q = absurd (let d = same_some 10 11 e in omega (arith, d))
     by_told (Err MarkCells) (Err (Judging g)) e p q = absurd (let d = same_some 11 (judge_number g) e in omega (arith, d, judging_below g))
     by_told (Err MarkCells) (Err WantCells) e p q = absurd (let d = same_some 11 10 e in omega (arith, d))
-    by_told (Err MarkCells) (Err MarkCells) e p q = let h = p.cells in let k = q.cells in (ranges_done h.0.0 k.0.0 h.0.1 k.0.1, wants_done h.1.0.0 k.1.0.0 h.1.0.1 k.1.0.1, marks_short h.1.1 k.1.1)
+    by_told (Err MarkCells) (Err MarkCells) e p q = let h = p.cells in let k = q.cells in (ranges_done h.0.0 k.0.0 h.0.1 k.0.1, wants_done h.1 k.1, marks_short h.2 k.2)
 
     marks_one : (r q : Result (Marking Truth) MarkFault) → MarksIn rows s t ranges a wants w marks m r → MarksIn rows s t ranges b wants v marks n q → (a ≡ b) × (w ≡ v) × (m ≡ n)
     marks_one r q h k = by_told r q (one_failing asked (told r) (told q) (failing a w m r h) (failing b v n q k)) h k

@@ -4,7 +4,7 @@ use Rattle.grades.specs.Ranges.{Span}
 use Rattle.grades.specs.Truths.{truths}
 use Rattle.grades.specs.Margins.{margins}
 use Rattle.rules.specs.Rows.{Sound}
-use Rattle.meaning.specs.Outcomes.{outcome_of_lem}
+use Rattle.meaning.specs.Outcomes.{outcome_at}
 use Rattle.runs.specs.Families.{truth_and_margin}
 use Rattle.runs.specs.States.{State, opened, line_count}
 use Rattle.runs.specs.Jobs.{JobAnswer, enter}
@@ -39,7 +39,7 @@ module _ (cells : CellCounts) (rule : Table) where
     no_truth : (t n : ℕ) → i ≡ tick t → es ≡ in_truth t (Err n) ∷ [] → text ≡ refused_line n k → Prints k i es text
     no_margin : (t n : ℕ) (p : Span truths.Value) → i ≡ tick t → es ≡ in_truth t (Ok p) ∷ (in_margin t (Err n) ∷ []) → text ≡ refused_line n k → Prints k i es text
     no_marks : (t n : ℕ) (p : Span truths.Value) (q : Span margins.Value) → i ≡ tick t → es ≡ in_truth t (Ok p) ∷ (in_margin t (Ok q) ∷ (marking t (Err n) ∷ [])) → text ≡ refused_line n k → Prints k i es text
-    verdict : (t : ℕ) (p : Span truths.Value) (q : Span margins.Value) (m : Marking truths) → i ≡ tick t → es ≡ in_truth t (Ok p) ∷ (in_margin t (Ok q) ∷ (marking t (Ok m) ∷ [])) → text ≡ verdict_line t (outcome_of_lem p) q.low.number q.high.number (length m.marks) ++ mark_lines m.marks → Prints k i es text
+    verdict : (t : ℕ) (p : Span truths.Value) (q : Span margins.Value) (m : Marking truths) → i ≡ tick t → es ≡ in_truth t (Ok p) ∷ (in_margin t (Ok q) ∷ (marking t (Ok m) ∷ [])) → text ≡ verdict_line t (outcome_at p) q.low.number q.high.number (length m.marks) ++ mark_lines m.marks → Prints k i es text
 
   -- the same of the fields from number n on, up to the end or to the first that is refused
   pub data AllPrint : ℕ → List ℕ → List (Event truth_and_margin) → List ℕ → Type 0 where

@@ -1,5 +1,5 @@
 -- No condition fails exactly where each holds.
-use Rattle.std.proofs.Common.{◌≡◌, ℕ, List, [], ◌∷◌, Some, None, Option, sym, refl, ◌∙◌, inl, inr, arith}
+use Rattle.std.proofs.Common.{◌≡◌, ℕ, List, [], ◌∷◌, ◌++◌, Some, None, Option, sym, refl, ◌∙◌, inl, inr, arith}
 use Rattle.runs.specs.Conditions.{Condition, AllHold, FirstFailing}
 
 pub all_hold : (cs : List Condition) → FirstFailing cs None → AllHold cs
@@ -10,6 +10,11 @@ all_hold (c ∷ cs) (inr h) = (h.0, all_hold cs h.1)
 pub none_fails : (cs : List Condition) → AllHold cs → FirstFailing cs None
 none_fails [] h = refl
 none_fails (c ∷ cs) h = inr (h.0, none_fails cs h.1)
+
+-- where each of the first conditions holds, those behind them decide
+pub fails_behind : (cs ds : List Condition) (o : Option ℕ) → AllHold cs → FirstFailing ds o → FirstFailing (cs ++ ds) o
+fails_behind [] ds o h k = k
+fails_behind (c ∷ cs) ds o h k = inr (h.0, fails_behind cs ds o h.1 k)
 
 -- one answer at most is the first that fails
 pub one_failing : (cs : List Condition) (o p : Option ℕ) → FirstFailing cs o → FirstFailing cs p → o ≡ p

@@ -17,7 +17,8 @@ use Rattle.meaning.specs.declared.mark.Mark.{Mark}
 use Rattle.meaning.specs.Readings.{Readings, Ends, Reads, widest, Within, entered}
 use Rattle.meaning.specs.Values.{value}
 use Rattle.meaning.specs.Verdicts.{ranges, verdict}
-use Rattle.meaning.specs.Marks.{Tests, Marked}
+use Rattle.rules.specs.Tested.{Tests}
+use Rattle.meaning.specs.Marks.{Marked}
 use Rattle.meaning.proofs.Readings.{reading_same, entered_elsewhere}
 use Rattle.meaning.proofs.Deciding.{both?, not?, as?, first, some?}
 use Rattle.meaning.proofs.Decided.{has_marks}

@@ -11,7 +11,8 @@ use Rattle.pieces.specs.Pieces.{Canonical, Lists}
 use Rattle.meaning.specs.declared.reading.Reading.{Reading}
 use Rattle.meaning.specs.declared.mark.Mark.{Mark}
 use Rattle.meaning.specs.Readings.{Readings, widest, Within, AllWithin, entered}
-use Rattle.meaning.specs.Marks.{Tests, Listed}
+use Rattle.rules.specs.Tested.{Tests}
+use Rattle.meaning.specs.Marks.{Listed}
 use Rattle.meaning.proofs.Readings.{entered_here, entered_elsewhere}
 use Rattle.runs.specs.States.{State, reading_at, readings_of}
 use Rattle.runs.specs.Jobs.{counted}

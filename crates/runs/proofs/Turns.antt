@@ -8,7 +8,8 @@ use Rattle.pieces.specs.Pieces.{Lists}
 use Rattle.meaning.specs.declared.reading.Reading.{Reading}
 use Rattle.meaning.specs.declared.mark.Mark.{Mark}
 use Rattle.meaning.specs.Readings.{Readings, Ends, Reads, widest, Within, AllWithin, entered}
-use Rattle.meaning.specs.Marks.{Tests, Listed}
+use Rattle.rules.specs.Tested.{Tests}
+use Rattle.meaning.specs.Marks.{Listed}
 use Rattle.meaning.proofs.Readings.{reading_same}
 use Rattle.runs.specs.States.{State, reading_at, readings_of, made, blank, opened}
 use Rattle.runs.specs.Conditions.{FirstFailing}

@@ -7,7 +7,8 @@ use Rattle.rules.specs.Rows.{row_at}
 use Rattle.meaning.specs.declared.mark.Mark.{Mark}
 use Rattle.meaning.specs.declared.reading.Reading.{Reading}
 use Rattle.meaning.specs.Readings.{Readings, widest, entered}
-use Rattle.meaning.specs.Marks.{Tests, Listed}
+use Rattle.rules.specs.Tested.{Tests}
+use Rattle.meaning.specs.Marks.{Listed}
 use Rattle.runs.specs.States.{State, made}
 use Rattle.runs.specs.Jobs.{JobCall, enter, seal, JobAnswer, JobTurn}
 use Rattle.runs.specs.Calls.{Table, Marking, JudgeTurn, MarkTurn}
