@@ -6,9 +6,9 @@ use Rattle.std.proofs.lemmas.Int.{ints, clamps}
 use Rattle.rules.specs.Rows.{NumberFits}
 use Rattle.pieces.specs.declared.piece.Piece.{Piece}
 use Rattle.pieces.specs.Pieces.{at_from}
+use Rattle.runs.specs.Bounds.{most_lines, line_cells}
 use Rattle.meaning.specs.declared.reading.Reading.{Reading}
 use Rattle.meaning.specs.Readings.{Readings, widest}
-use Rattle.runs.specs.Bounds.{most_lines, line_cells}
 
 pub record State : Type 0 where
   pub lines : List (List (Piece Reading))
