@@ -4,7 +4,7 @@ ghost use Rattle.runs.specs.Bounds.{line_cells};
 ghost use Rattle.runs.specs.States.{opened, line_count};
 ghost use Rattle.jobs.specs.Jobs.{state_of, cells_of};
 
-use crate::held::{Held, LineNote, LINE_CELLS, MOST_LINES};
+use crate::held::{Held, LINE_CELLS, LineNote, MOST_LINES};
 use crate::job::Job;
 use meaning::reading::Reading;
 use pieces::piece::Piece;

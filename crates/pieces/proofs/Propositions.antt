@@ -1,5 +1,5 @@
 -- That pieces are a list that is kept holds in one way.
-use Rattle.std.proofs.Common.{ℕ, List, [], ◌∷◌}
+use Rattle.std.proofs.Common.{List, [], ◌∷◌}
 use mathlib.Core.HLevel.{×_prop, ×₃_prop}
 use denote.Struct.Props.{props}
 use Rattle.pieces.specs.declared.piece.Piece.{Piece}

@@ -59,8 +59,7 @@ impl<'a, V: Copy> PieceList<'a, V> {
         ensures some { 1 ≤ result }
         ensures last { Holds self.now.pieces.now t (result - 1) }
     {
-        self.pieces
-            .partition_point(|piece| piece.start as u64 <= t)
+        self.pieces.partition_point(|piece| piece.start as u64 <= t)
     }
 
     // How many pieces start before t.

@@ -1,4 +1,4 @@
-use Rattle.std.proofs.Common.{◌*◌, ◌<◌, ◌≤◌, length, get_or, refl, arith, rules}
+use Rattle.std.proofs.Common.{◌*◌, ◌<◌, ◌≤◌, length, refl, arith, rules}
 use Rattle.jobs.specs.Lines.{noted_count, held_pieces}
 use Rattle.jobs.specs.Edits.{edited}
 use Rattle.jobs.proofs.Turns.{edit_order, edit_size, edit_lists, turned_down, taken_up}
