@@ -10,7 +10,7 @@ use Rattle.meaning.specs.Readings.{widest}
 use Rattle.runs.specs.States.{blank, opened}
 use Rattle.jobs.specs.declared.held.Held.{Held}
 use Rattle.jobs.specs.declared.held.LineNote.{LineNote}
-use Rattle.jobs.specs.Lines.{noted_count, held_pieces, held_state}
+use Rattle.jobs.specs.Lines.{no_note, noted_count, held_pieces, held_state}
 use Rattle.jobs.specs.Holds.{Kept, AllKept}
 
 abbrev wide : Piece Reading
@@ -42,29 +42,29 @@ opened_more before cells n v e l o =
     }
 
 -- each line has one piece
-abbrev one : LineNote
-one = record { count = 1 }
+abbrev one_piece : LineNote
+one_piece = record { count = 1 }
 
-abbrev pub fresh : ℕ → Held
-fresh n = record { lines = n; notes = replicate 16 one; tally = 0; sealed = false }
+abbrev pub just_held : ℕ → Held
+just_held n = record { lines = n; notes = replicate 16 one_piece; tally = 0; sealed = false }
 
-pub one_each : (n : ℕ) → n ≤ 16 → (k : ℕ) → k < n → noted_count (fresh n) k ≡ 1
-one_each n few k h = ap (λ (m : LineNote). m.count) (get_or-replicate 16 k one (record { count = 0 }) (omega arith))
+pub one_each : (n : ℕ) → n ≤ 16 → (k : ℕ) → k < n → noted_count (just_held n) k ≡ 1
+one_each n few k h = ap (λ (m : LineNote). m.count) (get_or-replicate 16 k one_piece no_note (omega arith))
 
 module _ (before cells : List (Piece Reading)) (n i : ℕ) (end : i ≡ n) (o : OpenedTo before cells i) (few : n ≤ 16) (room : 64 * n ≤ length cells) where
-  each_blank : (k : ℕ) → k < n → held_pieces cells (fresh n) k ≡ blank
+  each_blank : (k : ℕ) → k < n → held_pieces cells (just_held n) k ≡ blank
   each_blank k h =
       ap (λ m. take m (drop (64 * k) cells)) (one_each n few k h)
       ∙ ap (take 1) (drop_more cells (64 * k) wide (omega arith))
       ∙ ap (λ (p : Piece Reading). p ∷ []) (o.firsts k wide (omega arith))
 
-  pub blank_kept : AllKept cells (fresh n)
+  pub blank_kept : AllKept cells (just_held n)
   blank_kept k h = subst Kept (sym (each_blank k h)) ((refl, tt), λ t a. refl)
 
-  pub opened_state : (m : ℕ) → n ≡ m → held_state cells (fresh n) ≡ opened m
+  pub opened_state : (m : ℕ) → n ≡ m → held_state cells (just_held n) ≡ opened m
   opened_state m e =
-      let all : map (held_pieces cells (fresh n)) (range_with_len 0 n) ≡ replicate n blank =
-      sym (fill_by_all (held_pieces cells (fresh n)) (replicate n blank) n [] (length-replicate n blank) (λ k h. get_or-replicate n k blank [] h ∙ sym (each_blank k h))) in
+      let all : map (held_pieces cells (just_held n)) (range_with_len 0 n) ≡ replicate n blank =
+      sym (fill_by_all (held_pieces cells (just_held n)) (replicate n blank) n [] (length-replicate n blank) (λ k h. get_or-replicate n k blank [] h ∙ sym (each_blank k h))) in
       ap (λ (ls : List (List (Piece Reading))). record { lines = ls; tally = 0; sealed = false }) all ∙ ap opened e
 
   pub opened_behind : (m : ℕ) → n ≡ m → drop (64 * m) cells ≡ drop (64 * m) before

@@ -15,7 +15,7 @@ use Rattle.runs.specs.Jobs.{enter, JobAnswer, accepted, Room, counted, JobTurn}
 use Rattle.jobs.specs.declared.edit.Edit.{Edit}
 use Rattle.jobs.specs.declared.held.Held.{Held}
 use Rattle.jobs.specs.declared.held.LineNote.{LineNote}
-use Rattle.jobs.specs.Lines.{part, noted_count, held_pieces, held_state}
+use Rattle.jobs.specs.Lines.{part, no_note, noted_count, held_pieces, held_state}
 use Rattle.jobs.specs.Entries.{Changes}
 use Rattle.jobs.specs.Holds.{Kept, AllKept, HeldSound}
 use Rattle.jobs.specs.Checks.{Ready}
@@ -58,17 +58,18 @@ lists_as : (f g : ℕ → Reading) (es : List (Piece Reading)) → ((t : ℕ) �
 lists_as f g [] e l = absurd l.0
 lists_as f g (p ∷ ps) e l = (l.0, λ t. l.1 t ∙ e t)
 
--- what is held once the entry is counted, with n pieces in the line
-abbrev pub noted : Held → ℕ → ℕ → ℕ → Held
-noted h line n m = record h { notes = set h.notes line (record { count = n }); tally = m }
+-- what is held once the entry is counted, with another note of the line
+abbrev pub noted : Held → ℕ → LineNote → ℕ → Held
+noted h line note tally = record h { notes = set h.notes line note; tally = tally }
 
 -- the lines with the pieces es put into one of them
-module _ (cells : List (Piece Reading)) (h : Held) (sound : HeldSound cells h) (line : ℕ) (there : line < h.lines) (in_notes : line < length h.notes) (es : List (Piece Reading)) (short : length es ≤ 64) (tally : ℕ) where
+module _ (cells : List (Piece Reading)) (h : Held) (sound : HeldSound cells h) (line : ℕ) (there : line < h.lines) (in_notes : line < length h.notes) (es : List (Piece Reading)) (short : length es ≤ 64)
+    (note : LineNote) (size : note.count ≡ length es) (tally : ℕ) where
   abbrev after : List (Piece Reading)
   after = written cells (64 * line) es
 
   abbrev now : Held
-  now = noted h line (length es) tally
+  now = noted h line note tally
 
   fits : 64 * line + length es ≤ length cells
   fits = omega (arith, sound.room)
@@ -77,10 +78,10 @@ module _ (cells : List (Piece Reading)) (h : Held) (sound : HeldSound cells h) (
   rest_kept = (take_written cells (64 * line) es fits (64 * line) (omega arith), drop_written cells (64 * line) es fits (64 * line + 64) (omega arith))
 
   count_here : noted_count now line ≡ length es
-  count_here = ap (λ (n : LineNote). n.count) (get_or-set_same h.notes line (record { count = length es }) (record { count = 0 }) in_notes)
+  count_here = ap (λ (n : LineNote). n.count) (get_or-set_same h.notes line note no_note in_notes) ∙ size
 
   count_other : (k : ℕ) → (k ≡ line → ⊥) → noted_count now k ≡ noted_count h k
-  count_other k n = ap (λ (n : LineNote). n.count) (get_or-set_other h.notes line k (record { count = length es }) (record { count = 0 }) n)
+  count_other k n = ap (λ (n : LineNote). n.count) (get_or-set_other h.notes line k note no_note n)
 
   here : held_pieces after now line ≡ es
   here = ap (part after (64 * line)) count_here ∙ part_written cells (64 * line) es fits
@@ -157,19 +158,21 @@ module _ (cells : List (Piece Reading)) (h : Held) (sound : HeldSound cells h) (
   pub turned_down : 64 < length es → Turns (Err 6) state
   turned_down k = (fails_6 state line from to p.lower p.upper p (refl, refl) ready (no_room state line from to p ready (held_pieces cells h line) es is l k), refl)
 
-  -- the cells, the number of pieces and the tally are what it makes of them
-  abbrev Left : List (Piece Reading) → ℕ → ℕ → Type 0
-  Left xs n m = HeldSound xs (noted h line n m) × Turns (Ok accepted) (held_state xs (noted h line n m)) × Changes line cells xs (Ok tt)
+  -- the cells, the note of the line and the tally are what it makes of them
+  abbrev Left : List (Piece Reading) → LineNote → ℕ → Type 0
+  Left xs note m = HeldSound xs (noted h line note m) × Turns (Ok accepted) (held_state xs (noted h line note m)) × Changes line cells xs (Ok tt)
 
-  pub taken_up : (xs : List (Piece Reading)) (n m : ℕ) → line < length h.notes → length es ≤ 64 → xs ≡ written cells (64 * line) es → n ≡ length es → m ≡ counted h.tally → Left xs n m
-  taken_up xs n m in_notes short xe ne me =
+  pub taken_up : (xs : List (Piece Reading)) (note : LineNote) (m : ℕ) → line < length h.notes → length es ≤ 64 → xs ≡ written cells (64 * line) es → note.count ≡ length es → m ≡ counted h.tally → Left xs note m
+  taken_up xs note m in_notes short xe size me =
       let ps = held_pieces cells h line in
-      let after = written cells (64 * line) es in
       let kept = kept_set ps es from to p ready.stretch.1 (kept_at cells h sound line there) l in
-      let turn : Turns (Ok accepted) (held_state after (noted h line (length es) (counted h.tally))) = (
+      let turn : Turns (Ok accepted) (held_state (written cells (64 * line) es) (noted h line note (counted h.tally))) = (
         none_fails state line from to p.lower p.upper p (refl, refl) ready (room state line from to p ready ps es is l short),
-        (refl, (p, (es, (((refl, refl), set_listed state line from to p ready ps es is l), state_set cells h sound line there in_notes es short (counted h.tally))))),
+        (refl, (p, (es, (((refl, refl), set_listed state line from to p ready ps es is l), state_set cells h sound line there in_notes es short note size (counted h.tally))))),
       ) in
-      let all : Left after (length es) (counted h.tally) =
-      (sound_set cells h sound line there in_notes es short (counted h.tally) kept, turn, rest_kept cells h sound line there in_notes es short (counted h.tally)) in
-      subst (λ ys. Left ys n m) (sym xe) (subst (λ j. Left after j m) (sym ne) (subst (Left after (length es)) (sym me) all))
+      let all : Left (written cells (64 * line) es) note (counted h.tally) = (
+        sound_set cells h sound line there in_notes es short note size (counted h.tally) kept,
+        turn,
+        rest_kept cells h sound line there in_notes es short note size (counted h.tally),
+      ) in
+      subst (λ ys. Left ys note m) (sym xe) (subst (Left (written cells (64 * line) es) note) (sym me) all)

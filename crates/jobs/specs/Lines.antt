@@ -6,14 +6,19 @@ use Rattle.meaning.specs.declared.reading.Reading.{Reading}
 use Rattle.runs.specs.Bounds.{line_cells}
 use Rattle.runs.specs.States.{State}
 use Rattle.jobs.specs.declared.held.Held.{Held}
+use Rattle.jobs.specs.declared.held.LineNote.{LineNote}
 
 -- the n cells from base on
 abbrev pub part : {X : Type 0} → List X → ℕ → ℕ → List X
 part cells base n = take n (drop base cells)
 
+-- what is noted of a line that there is no note of
+abbrev pub no_note : LineNote
+no_note = record { count = 0 }
+
 -- how many pieces line k has
 abbrev pub noted_count : Held → ℕ → ℕ
-noted_count h k = (slice_index_or h.notes k (record { count = 0 })).count
+noted_count h k = (slice_index_or h.notes k no_note).count
 
 -- the pieces of line k
 abbrev pub held_pieces : List (Piece Reading) → Held → ℕ → List (Piece Reading)

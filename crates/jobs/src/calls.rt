@@ -12,13 +12,14 @@ use crate::stretch::Stretch;
 use meaning::reading::Reading;
 
 impl<'a> Job<'a> {
+    /// How many lines there are; they are numbered from 0.
     pub fn lines(&self) -> usize
         ensures { result ≡ length (state_of self.now).lines }
     {
         self.held.lines
     }
 
-    // What the line reads at a tick, and the tick where that next changes, if it does.
+    /// What the line reads at the tick (a millisecond), and the tick where that next changes, if it does. None where the job has no such line.
     pub fn reading(&self, line: u8, t: u64) -> Option<(Reading, Option<u32>)>
         ensures { Looked (state_of self.now) line t result }
     {
@@ -28,7 +29,8 @@ impl<'a> Job<'a> {
         Some(self.held.line(self.cells, line as usize).lookup(t))
     }
 
-    // Sets a reading from one tick to the tick before another, where it narrows what stands there.
+    /// Sets the reading from `lower` to `upper` from the tick `from` to the tick before `to` (milliseconds), and counts the entry.
+    /// It is turned down, and changes nothing, for the first that holds of the cases of `EnterFault`; it may only narrow what stands, or repeat it.
     pub fn enter(
         &mut self,
         line: u8,
@@ -51,7 +53,7 @@ impl<'a> Job<'a> {
         self.held.write(cells, stretch, reading)
     }
 
-    // The line's first tick with the widest reading, of which nothing is known.
+    /// The line's first tick with the widest reading, of which nothing is known. Turned down where the job has no such line.
     pub fn known(&self, line: u8) -> Result<u32, NoSuchLine>
         ensures { JobTurn (state_of self.now) (known line) (known_reply result) (state_of self.now) }
     {
@@ -61,14 +63,14 @@ impl<'a> Job<'a> {
         Ok(first_wide(&self.held.line(self.cells, line as usize)))
     }
 
-    // How many entries were accepted.
+    /// How many entries were accepted; it rests at the greatest number.
     pub fn tally(&self) -> u32
         ensures { JobTurn (state_of self.now) tally (Ok (count result)) (state_of self.now) }
     {
         self.held.tally
     }
 
-    // Ends entering.
+    /// Ends entering. Sealing again changes nothing.
     pub fn seal(&mut self)
         ensures turn { JobTurn (state_of self.old) seal (Ok accepted) (state_of self.new) }
         ensures cells { cells_of self.new ≡ cells_of self.old }

@@ -9,7 +9,7 @@ ghost use Rattle.jobs.specs.Jobs.{state_of};
 ghost use Rattle.jobs.specs.Lines.{held_state};
 
 use crate::fault::EnterFault;
-use crate::held::{Held, LineNote, LAST_END, LINE_CELLS};
+use crate::held::{Held, LAST_END, LINE_CELLS, LineNote};
 use crate::job::Job;
 use crate::look::narrows;
 use crate::plan::plan;

@@ -1,22 +1,22 @@
 // Why a call on a job is turned down.
 
-// In the order of the checks: the first that holds is the answer.
+/// Why an entry is turned down, in the order of the checks: the first that holds is the answer.
 #[derive(Clone, Copy, PartialEq, Eq)]
 pub enum EnterFault {
-    // The job is sealed.
+    /// The job is sealed.
     Sealed,
-    // The job has no such line.
+    /// The job has no such line.
     NoSuchLine,
-    // The first tick is not before the end, or the end is above 1,000,000,001.
+    /// The first tick is not before the end, or the end is above 1,000,000,001.
     BadStretch,
-    // The two numbers are not the ends of a reading.
+    /// The two numbers are not the ends of a reading.
     NotReading,
-    // The reading is not inside the standing one at some tick of the stretch.
+    /// The reading is not inside the standing one at some tick of the stretch.
     NotInside,
-    // The line would have more than 64 pieces.
+    /// The line would have more than 64 pieces.
     TooManyPieces,
 }
 
-// The job has no such line.
+/// The job has no such line.
 #[derive(Clone, Copy, PartialEq, Eq)]
 pub struct NoSuchLine;

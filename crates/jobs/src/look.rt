@@ -14,7 +14,11 @@ use pieces::piece::Piece;
 
 impl Held {
     // The pieces of a line, without the cells behind them.
-    pub(crate) fn line<'c>(&self, cells: &'c [Piece<Reading>], line: usize) -> PieceList<'c, Reading>
+    pub(crate) fn line<'c>(
+        &self,
+        cells: &'c [Piece<Reading>],
+        line: usize,
+    ) -> PieceList<'c, Reading>
         requires sound { HeldSound cells.now self.now }
         requires there { line < self.now.lines }
         ensures are { result.pieces.now ≡ held_pieces cells.now self.now line }

@@ -5,6 +5,7 @@ ghost use Rattle.jobs.specs.Faults.{fault_number, missing_line_number};
 use crate::fault::{EnterFault, NoSuchLine};
 
 impl EnterFault {
+    /// From 1 to 6, in the order of the cases.
     pub fn number(self) -> u8
         ensures { result ≡ fault_number self }
     {
@@ -20,6 +21,7 @@ impl EnterFault {
 }
 
 impl NoSuchLine {
+    /// 2, as for an entry.
     pub fn number(self) -> u8
         ensures { result ≡ missing_line_number self }
     {

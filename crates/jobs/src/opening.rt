@@ -4,13 +4,13 @@ ghost use Rattle.runs.specs.Bounds.{line_cells};
 ghost use Rattle.runs.specs.States.{opened, line_count};
 ghost use Rattle.jobs.specs.Jobs.{state_of, cells_of};
 
-use crate::held::{Held, LineNote, LINE_CELLS, MOST_LINES};
+use crate::held::{Held, LINE_CELLS, LineNote, MOST_LINES};
 use crate::job::Job;
 use meaning::reading::Reading;
 use pieces::piece::Piece;
 
 impl<'a> Job<'a> {
-    // A job with as many lines as asked, but at most 16, and at most one for each whole 64 cells. Nothing is known of any line.
+    /// A job with as many lines as asked, but at most 16, and at most one for each whole 64 cells. Nothing is known of any line.
     pub fn open(lines: usize, cells: &'a mut [Piece<Reading>]) -> Job<'a>
         ensures state { state_of result ≡ opened (line_count lines (length cells.old)) }
         ensures behind { drop (line_cells * line_count lines (length cells.old)) (cells_of result) ≡ drop (line_cells * line_count lines (length cells.old)) cells.old }

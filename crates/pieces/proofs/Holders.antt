@@ -57,21 +57,21 @@ module _ {V : Type 0} where
   start_is (p ∷ ps) (suc k) d = let r = start_is ps k d in (λ h. r.0 (omega arith), λ h. r.1 (omega arith))
 
   -- some piece holds a tick that is not before the first start
-  held_from : (p : Piece V) (ps : List (Piece V)) (t : ℕ) → p.start ≤ t → (k : ℕ) × Holds (p ∷ ps) t k
-  held_from p [] t h = (0, record { within = omega arith; from = λ d. h; behind = λ d l. absurd (omega arith) })
-  held_from p (q ∷ qs) t h = ⊎_elim
+  holder_from : (p : Piece V) (ps : List (Piece V)) (t : ℕ) → p.start ≤ t → (k : ℕ) × Holds (p ∷ ps) t k
+  holder_from p [] t h = (0, record { within = omega arith; from = λ d. h; behind = λ d l. absurd (omega arith) })
+  holder_from p (q ∷ qs) t h = ⊎_elim
       (λ (b : t < q.start). (0, record { within = omega arith; from = λ d. h; behind = λ d l. b }))
       (λ (b : q.start ≤ t).
-      let r = held_from q qs t b in
+      let r = holder_from q qs t b in
       (suc r.0, record { within = omega (arith, r.1.within); from = r.1.from; behind = λ d l. next_in r.0 d (r.1.behind d (omega (arith, l))) }))
       (cases_lt t q.start)
     where
       next_in : (k : ℕ) (d : Piece V) → t < (get_or (q ∷ qs) (k + 1) d).start → t < (get_or (p ∷ (q ∷ qs)) (suc k + 1) d).start
       next_in k d l = let e : suc (k + 1) ≡ suc k + 1 = omega arith in subst (λ j. t < (get_or (p ∷ (q ∷ qs)) j d).start) e l
 
-  pub held : (ps : List (Piece V)) (t : ℕ) → ordered ps ≡ true → (k : ℕ) × Holds ps t k
-  held [] t e = absurd (clash e)
-  held (p ∷ ps) t e = let z : p.start ≡ 0 = (first (p ∷ ps) e).1 p in held_from p ps t (omega arith)
+  pub holder_of : (ps : List (Piece V)) (t : ℕ) → ordered ps ≡ true → (k : ℕ) × Holds ps t k
+  holder_of [] t e = absurd (clash e)
+  holder_of (p ∷ ps) t e = let z : p.start ≡ 0 = (first (p ∷ ps) e).1 p in holder_from p ps t (omega arith)
 
   module _ (ps : List (Piece V)) (t k : ℕ) (e : ordered ps ≡ true) (h : Holds ps t k) where
     -- the pieces behind it start later
@@ -114,5 +114,5 @@ module _ {C : Type 0} (f : ℕ → C) (ps : List (Piece C)) (t : ℕ) (l : Lists
 pub one_holder : (C : Type 0) → OneHolder C
 one_holder C f [] t l = absurd l.0
 one_holder C f (p ∷ ps) t l =
-    let h = held (p ∷ ps) t (canonical_ordered (p ∷ ps) l.0) in
+    let h = holder_of (p ∷ ps) t (canonical_ordered (p ∷ ps) l.0) in
     (h.0, (holder f (p ∷ ps) t l h.0 h.1 p, λ j g. holds_one (p ∷ ps) t h.0 j (canonical_ordered (p ∷ ps) l.0) h.1 g))

@@ -10,3 +10,4 @@ pub mod Windows
 pub mod Exists
 pub mod Holders
 pub mod Firsts
+pub mod Propositions

@@ -1,6 +1,6 @@
 -- The loop of a sweep over plain lists: what holds at each turn, and what is written at its end. It serves every loop that follows a next tick, also one whose steps read cells that are done.
 use Rattle.std.proofs.Common.{◌≡◌, ℕ, ◌+◌, ◌<◌, ◌≤◌, List, [], ◌∷◌, ◌++◌, length, take, set, Some, None, Option, sym, refl, ap, ◌∙◌, subst, arith, length-set}
-use Rattle.std.proofs.lemmas.List.{length_push, take-set}
+use Rattle.std.proofs.lemmas.List.{length_push}
 use Rattle.pieces.specs.declared.piece.Piece.{Piece}
 use Rattle.pieces.specs.Ticks.{Steady}
 use Rattle.pieces.specs.Pieces.{last_from}

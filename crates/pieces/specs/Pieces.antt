@@ -1,6 +1,5 @@
 -- Piece lists, the function of ticks that one stands for, and the one list that is kept of such a function.
 use Rattle.std.specs.Prelude.{◌≡◌, ℕ, zero, suc, ◌+◌, ◌<◌, ◌≤◌, Bool, true, false, cond, List, [], ◌∷◌, Some, None, Option, ◌==◌, ◌≢◌, nat_le, nat_lt, length, slice_index_or}
-use Rattle.std.specs.Coded.{×_prop, →_prop, Unit-prop, le_prop, Coded-set, coded_ℕ}
 use borrow.Author.Tests.{clash}
 use Rattle.pieces.specs.declared.piece.Piece.{Piece}
 
@@ -69,15 +68,6 @@ module _ {C : Type 0} where
   abbrev pub Canonical : List (Piece C) → Type 0
   Canonical [] = ⊥
   Canonical (p ∷ ps) = (p.start ≡ 0) × Rising p ps
-
-  -- these facts have one proof at most, so a struct may keep them
-  pub Rising_prop : (p : Piece C) (ps : List (Piece C)) → IsProp (Rising p ps)
-  Rising_prop p [] = Unit-prop
-  Rising_prop p (q ∷ qs) = λ a b k. (le_prop a.0 b.0 k, →_prop (λ x y. absurd x) a.1 b.1 k, Rising_prop q qs a.2 b.2 k)
-
-  pub Canonical_prop : (ps : List (Piece C)) → IsProp (Canonical ps)
-  Canonical_prop [] = λ a b. absurd a
-  Canonical_prop (p ∷ ps) = ×_prop (Coded-set coded_ℕ p.start 0) (Rising_prop p ps)
 
   -- the pieces say what f says, at every tick
   abbrev pub Represents : List (Piece C) → (ℕ → C) → Type 0

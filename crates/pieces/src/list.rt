@@ -6,7 +6,8 @@ ghost use Rattle.pieces.specs.Ticks.{FirstTick};
 use crate::piece::Piece;
 use crate::same::Same;
 
-// The first piece starts at 0, the starts rise, and the last piece goes on for ever. Who knows that of some pieces puts them in without a walk over them.
+/// The first piece starts at 0, the starts rise, and the last piece goes on for ever.
+// Who knows that of some pieces puts them in without a walk over them.
 #[derive(Drop)]
 pub struct PieceList<'a, V> {
     pub pieces: &'a [Piece<V>],
@@ -42,7 +43,7 @@ fn holds<V: Copy>(pieces: &[Piece<V>], t: u64, k: usize) -> bool
 }
 
 impl<'a, V: Copy> PieceList<'a, V> {
-    // Pieces that are out of order are no list.
+    /// Pieces that are out of order are no list.
     pub fn new(pieces: &'a [Piece<V>]) -> Option<PieceList<'a, V>>
         ensures { MatchOption result (ordered pieces.now ≡ false) (λ list. list.pieces.now ≡ pieces.now) }
     {
@@ -53,17 +54,16 @@ impl<'a, V: Copy> PieceList<'a, V> {
         }
     }
 
-    // How many pieces start at t or before: the last of them holds t.
+    /// How many pieces start at t or before: the last of them holds t.
     pub fn started(&self, t: u64) -> usize
         ensures count { result ≡ count_before (t + 1) self.now.pieces.now }
         ensures some { 1 ≤ result }
         ensures last { Holds self.now.pieces.now t (result - 1) }
     {
-        self.pieces
-            .partition_point(|piece| piece.start as u64 <= t)
+        self.pieces.partition_point(|piece| piece.start as u64 <= t)
     }
 
-    // How many pieces start before t.
+    /// How many pieces start before t.
     pub fn started_before(&self, t: u64) -> usize
         ensures { result ≡ count_before t self.now.pieces.now }
     {
@@ -88,7 +88,7 @@ impl<'a, V: Copy> PieceList<'a, V> {
         }
     }
 
-    // The value at t, and the next start above t.
+    /// The value at t, and the next start above t.
     pub fn lookup(&self, t: u64) -> (V, Option<u32>)
         ensures { Found self.now.pieces.now t result.0 result.1 }
     {
@@ -98,7 +98,7 @@ impl<'a, V: Copy> PieceList<'a, V> {
         (pieces[count - 1].value, next)
     }
 
-    // The same, with the place of the piece; it tries near and the place behind it before it searches.
+    /// The same, with the place of the piece; it tries near and the place behind it before it searches.
     pub fn lookup_near(&self, t: u64, near: usize) -> (V, Option<u32>, usize)
         ensures found { Found self.now.pieces.now t result.0 result.1 }
         ensures place { Holds self.now.pieces.now t result.2 }
@@ -111,7 +111,7 @@ impl<'a, V: Copy> PieceList<'a, V> {
 }
 
 impl<'a, V: Same> PieceList<'a, V> {
-    // The first tick at which the list has the value; none where it never has.
+    /// The first tick at which the list has the value; none where it never has.
     pub fn first_tick(&self, value: V) -> Option<u32>
         ensures { FirstTick (λ t. V.Same.value (at_list self.now.pieces.now self.now.ok t)) (V.Same.value value) result }
     {

@@ -2,12 +2,13 @@
 ghost use Rattle.std.specs.Prelude.{◌≡◌, Bool};
 ghost use Rattle.grades.specs.Kinds.{Tells};
 
-// Values are the same if they stand for the same, and only then; of equality by `==` no law says so much.
+/// Values are the same if they stand for the same, and only then; of equality by `==` no law says so much.
 pub trait Same: Copy {
     ghost Value: { Type 0 };
 
     ghost value: { Self → Value };
 
+    /// Whether both stand for the same.
     fn same(self, other: Self) -> bool
         ensures { Tells result (value self ≡ value other) };
 }

@@ -7,6 +7,7 @@ ghost use Rattle.pieces.specs.Pieces.{at_list};
 use crate::list::PieceList;
 use crate::same::Same;
 
+/// A value at every tick, in milliseconds.
 pub trait Signal<V: Same> {
     // What the values stand for: the members are its own, and a step says that they tell values apart as `same` does.
     ghost Value: { Type 0 };
@@ -15,7 +16,7 @@ pub trait Signal<V: Same> {
 
     ghost f: { Self → ℕ → Value };
 
-    // The value at t, and a tick up to which it stays the same, or none if it stays for ever.
+    /// The value at t, and a tick up to which it stays the same, or none if it stays for ever.
     fn step(&self, t: u32) -> (V, Option<u32>)
         ensures steady { Steady (f self.now) t (value result.0) result.1 }
         ensures agree { Agree V.Same.value value };

@@ -5,11 +5,11 @@ use crate::piece::Piece;
 use crate::same::Same;
 use crate::signal::Signal;
 
-// The cells do not suffice.
+/// The cells do not suffice.
 #[derive(Clone, Copy)]
 pub struct Full;
 
-// Writes the signal's list into the cells from `used` on, and gives the first cell behind it.
+/// Writes the signal's list into the cells from `used` on, and gives the first cell behind it. Where they are too few they hold the beginning of the list.
 // A signal may name a next tick at which nothing changes: same values are joined.
 // The cells are the caller's, so nothing is allocated, and places are counted.
 pub fn sweep<V: Same, S: Signal<V>>(

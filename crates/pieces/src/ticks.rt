@@ -2,7 +2,7 @@
 ghost use Rattle.std.specs.Prelude.{◌≡◌};
 ghost use Rattle.pieces.specs.Ticks.{sooner, earlier};
 
-// The sooner of the two.
+/// The sooner of the two.
 pub fn first_of(one: Option<u32>, other: Option<u32>) -> Option<u32>
     ensures { result ≡ sooner one other }
 {
@@ -12,7 +12,7 @@ pub fn first_of(one: Option<u32>, other: Option<u32>) -> Option<u32>
     }
 }
 
-// The tick as it is seen from so many ticks before.
+/// The tick as it is seen from so many ticks before.
 pub fn moved_back(next: Option<u32>, by: u32) -> Option<u32>
     ensures { result ≡ earlier next by }
 {

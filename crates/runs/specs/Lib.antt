@@ -1,7 +1,7 @@
 pub mod Nearest
-pub mod Bounds
 pub mod States
 pub mod Conditions
+pub mod Bounds
 pub mod Jobs
 pub mod Calls
 pub mod Runs

@@ -2,10 +2,10 @@
 use Rattle.std.specs.Prelude.{ℕ, ◌/◌, min, Bool, false, List, [], ◌∷◌, replicate, ℤ, slice_index_or}
 use Rattle.pieces.specs.declared.piece.Piece.{Piece}
 use Rattle.pieces.specs.Pieces.{at_from}
+use Rattle.runs.specs.Bounds.{most_lines, line_cells}
 use Rattle.meaning.specs.declared.reading.Reading.{Reading}
 use Rattle.meaning.specs.Readings.{Readings, widest}
 use Rattle.runs.specs.Nearest.{low_end, high_end, low_fits, high_fits, ends_ordered}
-use Rattle.runs.specs.Bounds.{most_lines, line_cells}
 
 pub record State : Type 0 where
   pub lines : List (List (Piece Reading))

@@ -6,7 +6,7 @@ ghost use Rattle.meaning.specs.Readings.{widest, Reads, Within, Exact};
 use crate::reading::Reading;
 
 impl Reading {
-    // The reading with these ends; none where they are out of bounds or in the wrong order.
+    /// The reading with these ends; none where they are out of bounds or in the wrong order.
     pub fn new(lower: i32, upper: i32) -> Option<Reading>
         ensures { Reads lower upper result }
     {
@@ -17,7 +17,7 @@ impl Reading {
         }
     }
 
-    // The reading that says nothing.
+    /// The reading that says nothing: from -500,000 to 500,000.
     pub fn widest() -> Reading
         ensures { result ≡ widest }
     {
@@ -27,19 +27,21 @@ impl Reading {
         }
     }
 
+    /// Whether each end lies between those of the other, both counted.
     pub fn inside(self, other: Reading) -> bool
         ensures { Tells result (Within self other) }
     {
         other.lower <= self.lower && self.upper <= other.upper
     }
 
-    // Whether the two ends are equal.
+    /// Whether the two ends are equal.
     pub fn exact(self) -> bool
         ensures { Tells result (Exact self) }
     {
         self.lower == self.upper
     }
 
+    /// Whether both ends are those of the other.
     pub fn same(self, other: Reading) -> bool
         ensures { Tells result (self ≡ other) }
     {

@@ -4,7 +4,7 @@ ghost use Rattle.meaning.specs.declared.reading.Reading.{Reading};
 use crate::reading::Reading;
 use pieces::same::Same;
 
-// A reading stands for itself: two are the same where their ends are.
+/// A reading stands for itself: two are the same where their ends are.
 impl Same for Reading {
     ghost Value = { Reading };
 

@@ -1,4 +1,4 @@
-use Rattle.std.proofs.Common.{◌*◌, ◌<◌, ◌≤◌, length, get_or, refl, arith, rules}
+use Rattle.std.proofs.Common.{◌*◌, ◌<◌, ◌≤◌, length, refl, arith, rules}
 use Rattle.jobs.specs.Lines.{noted_count, held_pieces}
 use Rattle.jobs.specs.Edits.{edited}
 use Rattle.jobs.proofs.Turns.{edit_order, edit_size, edit_lists, turned_down, taken_up}
@@ -49,5 +49,5 @@ returns c =
     let n = edit_size c.args.cells.now h c.requires.sound k c.requires.there qs c.line.ensures.are e c.plan-edit.ensures.order c.size_after-size.result c.size_after-size.ensures in
     let in16 : k < length h.notes = search rules in
     let left = taken_up c.args.cells.now h c.requires.sound k c.requires.there c.args.stretch.from c.args.stretch.to c.args.reading c.requires.ready es l
-    c.splice.new.cells c.size_after-size.result c.saturating_add-self.result in16 (omega (arith, n, c.if-size-gt-LINE_CELLS.false)) c.splice.ensures n c.saturating_add-self.ensures in
+    c.splice.new.cells (record { count = c.size_after-size.result }) c.saturating_add-self.result in16 (omega (arith, n, c.if-size-gt-LINE_CELLS.false)) c.splice.ensures n c.saturating_add-self.ensures in
     record { sound = left.0; turn = left.1; cells = left.2 }

@@ -1,4 +1,4 @@
-use Rattle.std.proofs.Common.{◌≡◌, ◌+◌, ◌-◌, sym, ap, ◌∙◌, subst, arith}
+use Rattle.std.proofs.Common.{◌≡◌, ◌+◌, ◌-◌, sym, ap, ◌∙◌, arith}
 use Rattle.pieces.specs.Pieces.{count_before}
 use Rattle.pieces.proofs.Holders.{count_none}
 use Rattle.pieces.proofs.list.PieceList.started_before.Goals as goal
