@@ -1,3 +1,4 @@
 mod Ranges
 mod Blanks
 mod Firsts
+pub mod Valuing

@@ -1,3 +1,4 @@
 pub mod Gradings
 pub mod Known
 pub mod Tables
+pub mod RowValues
