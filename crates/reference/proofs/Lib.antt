@@ -1,4 +1,5 @@
 mod Ranges
 mod Blanks
 mod Firsts
-pub mod Valuing
+mod Valuing
+mod Spreading

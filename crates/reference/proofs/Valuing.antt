@@ -41,7 +41,9 @@ written v w n t found is here = let same : slice_get w.rows n ≡ Some found = g
 pub valued_more : (S : Grading) (rows : List Row) (f : Forecast) (n : ℕ) (v w : Values) (found : List Ends) → n < length v.rows → w.rows ≡ slice_set v.rows n found → ((u : ℕ) → u < 49 → Graded S f v (row_at rows n) u (slice_index_or found u nothing)) → Valued S rows f n v → Valued S rows f (n + 1) w
 valued_more S rows f n v w found here is now h = record {
   each = λ k t less few earlier. elim (eq-or-lt_of_le (omega arith)) [
-    inl e ↦ subst (λ k. ((c : ℕ) → Child (row_at rows k) c → c < k) → Graded S f w (row_at rows k) t (value_at w k t)) (sym e) (λ before. subst (Graded S f w (row_at rows n) t) (sym (written v w n t found is here)) (graded_alike S f v w (row_at rows n) t (min t 48) _ (λ line. ap (kept (slice_get f.readings line)) (still t)) (λ c child. others v w n c t found is (λ e. omega (arith, before c child)) ∙ ap (in_row (slice_get v.rows c)) (still t)) (now (min t 48) (omega arith)))) earlier | inr l ↦ graded_alike S f v w (row_at rows k) t t _ (λ line. refl) (λ c child. others v w n c t found is (λ e. omega (arith, earlier c child))) (subst (Graded S f v (row_at rows k) t) (sym (others v w n k t found is (λ e. omega arith))) (h.each k t l few earlier)) ];
+    | inl e ↦ subst (λ k. ((c : ℕ) → Child (row_at rows k) c → c < k) → Graded S f w (row_at rows k) t (value_at w k t)) (sym e) (λ before. subst (Graded S f w (row_at rows n) t) (sym (written v w n t found is here)) (graded_alike S f v w (row_at rows n) t (min t 48) _ (λ line. ap (kept (slice_get f.readings line)) (still t)) (λ c child. others v w n c t found is (λ e. omega (arith, before c child)) ∙ ap (in_row (slice_get v.rows c)) (still t)) (now (min t 48) (omega arith)))) earlier
+    | inr l ↦ graded_alike S f v w (row_at rows k) t t _ (λ line. refl) (λ c child. others v w n c t found is (λ e. omega (arith, earlier c child))) (subst (Graded S f v (row_at rows k) t) (sym (others v w n k t found is (λ e. omega arith))) (h.each k t l few earlier))
+  ];
   behind = λ k t less. others v w n k t found is (λ e. omega arith) ∙ h.behind k t (omega arith);
 }
 

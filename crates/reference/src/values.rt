@@ -1,5 +1,5 @@
 // The values of a rule's rows at each tick.
-ghost use Rattle.std.specs.Prelude.{◌≡◌, ℕ, ◌<◌, length, slice_index_or};
+ghost use Rattle.std.specs.Prelude.{◌≡◌, ℕ, ◌<◌, ◌≤◌, length, slice_index_or};
 ghost use Rattle.reference.specs.Tables.{nothing, value_at};
 ghost use Rattle.reference.specs.RowValues.{graded_gaps, Graded, Valued};
 
@@ -35,7 +35,9 @@ fn test<S: Scale>(reading: Ends, side: Side, limit: i32) -> Ends
 }
 
 // The tick that is so many ticks ahead of t.
-pub(crate) fn ahead(t: usize, by: u32) -> usize {
+pub(crate) fn ahead(t: usize, by: u32) -> usize
+    ensures { t ≤ result }
+{
     t.saturating_add(by as usize)
 }
 
