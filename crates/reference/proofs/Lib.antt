@@ -1,3 +1,5 @@
 mod Ranges
 mod Blanks
 mod Firsts
+mod Valuing
+mod Spreading

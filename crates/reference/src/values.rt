@@ -1,11 +1,11 @@
 // The values of a rule's rows at each tick.
-ghost use Rattle.std.specs.Prelude.{◌≡◌};
-ghost use Rattle.reference.specs.Tables.{value_at};
+ghost use Rattle.std.specs.Prelude.{◌≡◌, ℕ, ◌<◌, ◌≤◌, length, slice_index_or};
+ghost use Rattle.reference.specs.Tables.{nothing, value_at};
+ghost use Rattle.reference.specs.RowValues.{graded_gaps, Graded, Valued};
 
 use crate::ends::{Ends, Scale};
 use crate::forecast::{Forecast, HORIZON, TICKS};
 use rules::row::{Row, Side};
-use std::array;
 use std::ops::RangeInclusive;
 
 // The most rows that a rule has.
@@ -19,7 +19,9 @@ pub struct Values {
     rows: [[Ends; TICKS]; ROWS],
 }
 
-fn test<S: Scale>(reading: Ends, side: Side, limit: i32) -> Ends {
+fn test<S: Scale>(reading: Ends, side: Side, limit: i32) -> Ends
+    ensures { result ≡ graded_gaps S.grading reading side limit }
+{
     match side {
         Side::AtLeast => Ends {
             lower: S::grade(reading.lower.wrapping_sub(limit)),
@@ -33,7 +35,9 @@ fn test<S: Scale>(reading: Ends, side: Side, limit: i32) -> Ends {
 }
 
 // The tick that is so many ticks ahead of t.
-pub(crate) fn ahead(t: usize, by: u32) -> usize {
+pub(crate) fn ahead(t: usize, by: u32) -> usize
+    ensures { t ≤ result }
+{
     t.saturating_add(by as usize)
 }
 
@@ -79,7 +83,9 @@ impl Values {
     }
 
     // The value of a row at t, by those of the rows before it.
-    fn value<S: Scale>(&self, row: Row, forecast: &Forecast, t: usize) -> Ends {
+    fn value<S: Scale>(&self, row: Row, forecast: &Forecast, t: usize) -> Ends
+        ensures { Graded S.grading forecast.now self.now row t result }
+    {
         match row {
             Row::Test { line, side, limit } => {
                 test::<S>(forecast.reading(line as usize, t), side, limit)
@@ -102,15 +108,27 @@ impl Values {
         }
     }
 
+    // The values of a row at all ticks that are kept.
+    fn at_each_tick<S: Scale>(&self, row: Row, forecast: &Forecast) -> [Ends; TICKS]
+        ensures { (t : ℕ) → t < 49 → Graded S.grading forecast.now self.now row t (slice_index_or result t nothing) }
+    {
+        let mut found = [NOTHING; TICKS];
+        for t in 0..TICKS {
+            found[t] = self.value::<S>(row, forecast, t);
+        }
+        found
+    }
+
     // The values of all rows, children before parents.
-    pub fn of<S: Scale>(rows: &[Row], forecast: &Forecast) -> Values {
+    pub fn of<S: Scale>(rows: &[Row], forecast: &Forecast) -> Values
+        ensures { Valued S.grading rows.now forecast.now (length rows.now) result }
+    {
         let mut values = Values {
             rows: [[NOTHING; TICKS]; ROWS],
         };
         for (k, row) in rows.iter().enumerate() {
-            let found = array::from_fn(|t| values.value::<S>(*row, forecast, t));
-            if let Some(place) = values.rows.get_mut(k) {
-                *place = found;
+            if k < ROWS {
+                values.rows[k] = values.at_each_tick::<S>(*row, forecast);
             }
         }
         values

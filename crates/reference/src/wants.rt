@@ -1,6 +1,8 @@
 // At which ticks each row is wanted.
-ghost use Rattle.std.specs.Prelude.{◌≡◌};
+ghost use Rattle.std.specs.Prelude.{◌≡◌, ℕ, ◌<◌, ◌≤◌, ◌⊎◌, Bool, true, slice_index_or};
 ghost use Rattle.reference.specs.Tables.{wanted_at};
+ghost use Rattle.reference.specs.RowWants.{AskedAt};
+ghost use Rattle.reference.specs.Spreads.{SpreadFrom};
 
 use crate::ends::Scale;
 use crate::values::{ROWS, Values, ahead};
@@ -21,6 +23,17 @@ fn only_lowest<S: Scale>(values: &Values, row: usize, t: usize) -> bool {
     values.at(row, t).upper == S::LOWEST
 }
 
+// The wants of a row, with those of these ticks that are kept.
+fn wanted_on(mut wants: [bool; WANT_TICKS], ticks: Range<usize>) -> [bool; WANT_TICKS]
+    ensures inside { (t : ℕ) (d : Bool) → ticks.start ≤ t → t < ticks.end → t < 128 → slice_index_or result t d ≡ true }
+    ensures outside { (t : ℕ) (d : Bool) → t < 128 → (t < ticks.start) ⊎ (ticks.end ≤ t) → slice_index_or result t d ≡ slice_index_or wants t d }
+{
+    let end = ticks.end.min(WANT_TICKS);
+    let start = ticks.start.min(end);
+    wants[start..end].fill(true);
+    wants
+}
+
 impl Wants {
     pub fn at(&self, row: usize, t: usize) -> bool
         ensures { result ≡ wanted_at self.now row t }
@@ -32,12 +45,12 @@ impl Wants {
     }
 
     // Wants the row at those of the ticks that are kept.
-    fn want(&mut self, row: usize, ticks: Range<usize>) {
-        let kept = ticks.start..ticks.end.min(WANT_TICKS);
-        if let Some(wants) = self.rows.get_mut(row)
-            && let Some(wants) = wants.get_mut(kept)
-        {
-            wants.fill(true);
+    fn want(&mut self, row: usize, ticks: Range<usize>)
+        ensures spread { SpreadFrom ticks.start self.old self.new }
+        ensures there { (t : ℕ) → row < 64 → ticks.start ≤ t → t < ticks.end → t < 128 → wanted_at self.new row t ≡ true }
+    {
+        if row < ROWS {
+            self.rows[row] = wanted_on(self.rows[row], ticks);
         }
     }
 
@@ -49,7 +62,10 @@ impl Wants {
         right: usize,
         t: usize,
         window: Range<usize>,
-    ) {
+    )
+        requires { t ≤ window.start }
+        ensures { SpreadFrom t self.old self.new }
+    {
         let end = (t..window.end)
             .find(|u| only_lowest::<S>(values, left, *u))
             .unwrap_or(window.end);
@@ -63,7 +79,9 @@ impl Wants {
     }
 
     // What a row that is wanted at t, and not settled there, wants of its children.
-    fn spread<S: Scale>(&mut self, row: Row, values: &Values, t: usize) {
+    fn spread<S: Scale>(&mut self, row: Row, values: &Values, t: usize)
+        ensures { SpreadFrom t self.old self.new }
+    {
         let now = t.saturating_add(1);
         match row {
             Row::Test { .. } => {}
@@ -85,7 +103,9 @@ impl Wants {
     }
 
     // The wants of all rows at a tick, parents before children; for rules that look no further than the ticks that are kept.
-    pub fn of<S: Scale>(rows: &[Row], values: &Values, tick: usize) -> Wants {
+    pub fn of<S: Scale>(rows: &[Row], values: &Values, tick: usize) -> Wants
+        ensures { AskedAt rows.now tick result }
+    {
         let mut wants = Wants {
             rows: [[false; WANT_TICKS]; ROWS],
         };
