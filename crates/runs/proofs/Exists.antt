@@ -120,7 +120,7 @@ module _ (e : ℕ) (far : 1000000001 ≤ e) (s : State) (ends : EndsAt e s) wher
       by (None, h) =
           let ok = entry_passes s line from to lower upper h in
           let l = set_list e s ends line from to lower upper (omega (arith, ok.stretch.1)) ok.ends in
-          (Ok accepted, (record { lines = set s.lines line l.0; tally = counted s.tally; sealed = s.sealed }, (h, (refl, (made lower upper, (l.0, (l.1, refl)))))))
+          (Ok accepted, (record s { lines = set s.lines line l.0; tally = counted s.tally }, (h, (refl, (made lower upper, (l.0, (l.1, refl)))))))
 
   known_goes : (line : ℕ) → (r : Result JobAnswer ℕ) × ((z : State) × JobTurn s (known line) r z)
   known_goes line = by (first_failing (job_asks s (known line)) (dec_lt line (length s.lines), λ _. tt))
@@ -133,7 +133,7 @@ module _ (e : ℕ) (far : 1000000001 ≤ e) (s : State) (ends : EndsAt e s) wher
   job_goes (enter line from to lower upper) = enter_goes line from to lower upper
   job_goes (known line) = known_goes line
   job_goes tally = (Ok (count s.tally), (s, (refl, (refl, refl))))
-  job_goes seal = (Ok accepted, (record { lines = s.lines; tally = s.tally; sealed = true }, (refl, (refl, refl))))
+  job_goes seal = (Ok accepted, (record s { sealed = true }, (refl, (refl, refl))))
 
 -- the line that a row tests
 bad_test? : (n : ℕ) (r : Row) → Dec ((line : ℕ) × Tests r line × (line < n → ⊥))

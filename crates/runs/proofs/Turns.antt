@@ -79,7 +79,7 @@ entry_turned s z line from to lower upper a h =
       sealed = ap (λ (v : State). v.sealed) is.1 ∙ or_false s.sealed;
     }
 
-sealed_turned : (s z : State) → z ≡ record { lines = s.lines; tally = s.tally; sealed = true } → Turned s None true z
+sealed_turned : (s z : State) → z ≡ record s { sealed = true } → Turned s None true z
 sealed_turned s z e = record { between = record { lines = ap (λ (v : State). v.lines) e; tally = ap (λ (v : State). v.tally) e }; sealed = ap (λ (v : State). v.sealed) e ∙ or_true s.sealed }
 
 -- a seal is never turned down

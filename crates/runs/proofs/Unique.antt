@@ -58,7 +58,7 @@ does_one s (enter line from to lower upper) a b z y h k =
     let same : p ≡ q = made_is lower upper p hs.0.0 ∙ sym (made_is lower upper q ks.0.0) in
     let f : Reading → ℕ → Reading = λ r. entered (readings_of s) line from to r line in
     let pieces : ps ≡ qs = only_one Reading (f q) ps qs (subst (λ (r : Reading). Lists (f r) ps) same hs.0.1) ks.0.1 in
-    (h.0 ∙ sym k.0, hs.1 ∙ ap (λ (v : List (Piece Reading)). record { lines = set s.lines line v; tally = counted s.tally; sealed = s.sealed }) pieces ∙ sym ks.1)
+    (h.0 ∙ sym k.0, hs.1 ∙ ap (λ (v : List (Piece Reading)). record s { lines = set s.lines line v; tally = counted s.tally }) pieces ∙ sym ks.1)
 does_one s (known line) a b z y h k =
     (h.1.1 ∙ ap first_unknown (one_tick (readings_of s) line h.0 k.0 h.1.0 k.1.0) ∙ sym k.1.1, h.1.2 ∙ sym k.1.2)
 does_one s tally a b z y h k = (h.0 ∙ sym k.0, h.1 ∙ sym k.1)

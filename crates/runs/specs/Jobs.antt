@@ -55,10 +55,10 @@ job_asks s seal = []
 -- the accepted call answers a and leaves the state z
 abbrev pub JobDoes : State → JobCall → JobAnswer → State → Type 0
 JobDoes s (enter line from to lower upper) a z =
-    (a ≡ accepted) × ((p : Reading) × ((ps : List (Piece Reading)) × (Set s line from to lower upper p ps × (z ≡ record { lines = slice_set s.lines line ps; tally = counted s.tally; sealed = s.sealed }))))
+    (a ≡ accepted) × ((p : Reading) × ((ps : List (Piece Reading)) × (Set s line from to lower upper p ps × (z ≡ record s { lines = slice_set s.lines line ps; tally = counted s.tally }))))
 JobDoes s (known line) a z = (t : ℕ) × (FirstUnknown (readings_of s) line t × (a ≡ first_unknown t) × (z ≡ s))
 JobDoes s tally a z = (a ≡ count s.tally) × (z ≡ s)
-JobDoes s seal a z = (a ≡ accepted) × (z ≡ record { lines = s.lines; tally = s.tally; sealed = true })
+JobDoes s seal a z = (a ≡ accepted) × (z ≡ record s { sealed = true })
 
 -- one call on the job, from the state s to the state z
 abbrev pub JobTurn : State → JobCall → Result JobAnswer ℕ → State → Type 0
