@@ -1,5 +1,5 @@
 -- In a sound table each row but the last has a parent.
-use Rattle.std.proofs.Common.{◌≡◌, ℕ, suc, ◌+◌, ◌<◌, List, length, Some, None, Option, IsSome, refl, subst, arith}
+use Rattle.std.proofs.Common.{◌≡◌, ℕ, suc, ◌<◌, List, length, Some, None, Option, IsSome, refl, subst}
 use Rattle.rules.specs.declared.row.Row.{Row}
 use Rattle.rules.specs.Rows.{row_at, Child, Sound}
 use Rattle.rules.specs.Parents.{FirstParent}

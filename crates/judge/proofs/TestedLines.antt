@@ -1,19 +1,11 @@
 -- What a job reads on a line that it lacks.
-use Rattle.std.proofs.Common.{◌≡◌, ℕ, ◌+◌, ◌<◌, ◌≤◌, leb, List, [], length, ℤ, Some, None, Option, unwrap_or, sym, refl, ap, ◌∙◌, subst, ⊎_elim, arith, le-leb, leb-true}
+use Rattle.std.proofs.Common.{◌≡◌, ℕ, ◌≤◌, [], length, Some, None, Option, unwrap_or, sym, ap, ◌∙◌}
 use Rattle.std.proofs.lemmas.List.{get_or_past}
-use Rattle.std.proofs.lemmas.Bool.{cases_lt}
-use Rattle.grades.specs.Kinds.{Tells}
-use Rattle.rules.specs.declared.row.Side.{Side}
-use Rattle.rules.specs.declared.row.Row.{Row}
-use Rattle.rules.specs.declared.row.Row.TheVariants.{Test, Not, And, Or, Eventually, Always, Until}
-use Rattle.rules.specs.Rows.{row_at}
 use Rattle.pieces.specs.Ticks.{Steady}
 use Rattle.meaning.specs.declared.reading.Reading.{Reading}
 use Rattle.meaning.specs.Readings.{widest}
-use Rattle.rules.specs.Tested.{Tests}
 use Rattle.runs.specs.States.{State, reading_at, readings_of}
 use Rattle.jobs.specs.Jobs.{Looked}
-use Rattle.judge.proofs.Anys.{tells_from}
 
 pub lacked_reads : (s : State) (line u : ℕ) → length s.lines ≤ line → readings_of s line u ≡ widest
 lacked_reads s line u h = ap (λ ps. reading_at ps u) (get_or_past s.lines line [] h)
