@@ -78,5 +78,5 @@ module _ (s : State) (line from to : ℕ) (lower upper : ℤ) (p : Reading) (r :
   pub fails_6 : (Room s line from to lower upper → ⊥) → FirstFailing (enter_asks s line from to lower upper) (Some (fault_number TooManyPieces))
   fails_6 n = inr (ready.unsealed, inr (ready.there, inr (ready.stretch, inr (ends_of lower upper p r, inr (narrow, inl (n, refl))))))
 
-  pub none_fails : Room s line from to lower upper → FirstFailing (enter_asks s line from to lower upper) None
-  none_fails room = inr (ready.unsealed, inr (ready.there, inr (ready.stretch, inr (ends_of lower upper p r, inr (narrow, inr (room, refl))))))
+  pub all_pass : Room s line from to lower upper → FirstFailing (enter_asks s line from to lower upper) None
+  all_pass room = inr (ready.unsealed, inr (ready.there, inr (ready.stretch, inr (ends_of lower upper p r, inr (narrow, inr (room, refl))))))

@@ -23,7 +23,7 @@ use Rattle.jobs.specs.Edits.{written, set_on, optional, edited, edited_size}
 use Rattle.jobs.proofs.Parts.{length_part, length_lines, line_at}
 use Rattle.jobs.proofs.Keeps.{kept_at}
 use Rattle.jobs.proofs.Writes.{take_written, part_written, drop_written, length_written}
-use Rattle.jobs.proofs.Refusals.{one_reading, fails_6, none_fails}
+use Rattle.jobs.proofs.Refusals.{one_reading, fails_6, all_pass}
 
 length_edited : (ps : List (Piece Reading)) (e : Edit) → e.keep ≤ e.skip → e.skip ≤ length ps → length (edited ps e) ≡ edited_size e (length ps)
 length_edited ps e h k =
@@ -167,7 +167,7 @@ module _ (cells : List (Piece Reading)) (h : Held) (sound : HeldSound cells h) (
       let ps = held_pieces cells h line in
       let kept = kept_set ps es from to p ready.stretch.1 (kept_at cells h sound line there) l in
       let turn : Turns (Ok accepted) (held_state (written cells (64 * line) es) (noted h line note (counted h.tally))) = (
-        none_fails state line from to p.lower p.upper p (refl, refl) ready (room state line from to p ready ps es is l short),
+        all_pass state line from to p.lower p.upper p (refl, refl) ready (room state line from to p ready ps es is l short),
         (refl, (p, (es, (((refl, refl), set_listed state line from to p ready ps es is l), state_set cells h sound line there in_notes es short note size (counted h.tally))))),
       ) in
       let all : Left (written cells (64 * line) es) note (counted h.tally) = (

@@ -1,4 +1,4 @@
--- Functions of ticks, and how long one stays as it is.
+-- Functions of ticks: how long one stays as it is, and where it first has a value.
 use Rattle.std.specs.Prelude.{◌≡◌, ℕ, ◌-◌, ◌<◌, ◌≤◌, min, Some, None, Option}
 
 -- u is before the tick o; None is never, and every tick is before it
