@@ -5,3 +5,4 @@ pub mod Settling
 pub mod Collecting
 pub mod WantedLists
 pub mod Exists
+pub mod Keeping

@@ -1,5 +1,5 @@
 -- Lists of calls on one job, with their answers, judging in any mixture of kinds.
-use Rattle.std.specs.Prelude.{◌≡◌, ℕ, ◌<◌, ◌≤◌, List, [], ◌∷◌, Ok, Err, Result}
+use Rattle.std.specs.Prelude.{◌≡◌, ℕ, ◌+◌, ◌<◌, ◌≤◌, Bool, true, false, ◌||◌, List, [], ◌∷◌, Ok, Err, Result}
 use Rattle.grades.specs.Kinds.{Kind}
 use Rattle.grades.specs.Ranges.{Span}
 use Rattle.rules.specs.declared.row.Row.{Row}
@@ -66,6 +66,35 @@ module _ {N : Type 0} (kinds : N → Kind) where
   -- the readings standing after the events: the widest everywhere, with those of the accepted entries set in turn
   abbrev pub standing : List Event → Readings
   standing es = after_all (λ line t. widest) es
+
+  -- 1 for an accepted entry
+  abbrev pub entry_count : Event → ℕ
+  entry_count (event (on_job (enter line from to lower upper)) (Ok a)) = 1
+  entry_count (event (on_job (enter line from to lower upper)) (Err n)) = 0
+  entry_count (event (on_job (known line)) r) = 0
+  entry_count (event (on_job tally) r) = 0
+  entry_count (event (on_job seal) r) = 0
+  entry_count (event (judge n a t c) r) = 0
+  entry_count (event (mark n a t c w m) r) = 0
+
+  -- how many of the events are accepted entries
+  abbrev pub entries : List Event → ℕ
+  entries [] = 0
+  entries (e ∷ es) = entry_count e + entries es
+
+  -- the event is a seal
+  abbrev pub is_seal : Event → Bool
+  is_seal (event (on_job (enter line from to lower upper)) r) = false
+  is_seal (event (on_job (known line)) r) = false
+  is_seal (event (on_job tally) r) = false
+  is_seal (event (on_job seal) r) = true
+  is_seal (event (judge n a t c) r) = false
+  is_seal (event (mark n a t c w m) r) = false
+
+  -- one of the events is a seal
+  abbrev pub any_seal : List Event → Bool
+  any_seal [] = false
+  any_seal (e ∷ es) = is_seal e || any_seal es
 
   -- the event is an accepted judgement or marking by the kind n of these rows at the tick t, and p is its verdict
   pub data Gives : Event → (n : N) → List Row → ℕ → Span (kinds n).Value → Type 0 where

@@ -1,0 +1,6 @@
+pub mod Recounting
+pub mod Going
+pub mod Sofar
+pub mod Same
+pub mod Alike
+pub mod Parts

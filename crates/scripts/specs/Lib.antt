@@ -1,0 +1,4 @@
+pub mod Told
+pub mod Hearing
+pub mod Heard
+pub mod ToldAll
