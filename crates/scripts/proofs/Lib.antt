@@ -1,6 +1,4 @@
 pub mod Recounting
-pub mod Going
-pub mod Sofar
-pub mod Same
-pub mod Alike
 pub mod Parts
+pub mod Fronts
+pub mod Going

@@ -6,6 +6,7 @@ use Rattle.grades.specs.Ranges.{Span}
 use Rattle.grades.specs.Worth.{worth}
 use Rattle.rules.specs.declared.row.Row.{Row}
 use Rattle.meaning.specs.declared.mark.Mark.{Mark}
+use Rattle.meaning.specs.Readings.{Readings}
 use Rattle.runs.specs.States.{State}
 use Rattle.runs.specs.Jobs.{JobAnswer, enter, JobTurn}
 use Rattle.runs.specs.Calls.{JudgeTurn, MarkTurn, Marking as Marked}
@@ -16,9 +17,8 @@ use Rattle.grades.specs.declared.range.Range.{Range}
 use Rattle.grades.specs.declared.truth.Truth.{Truth}
 use Rattle.grades.specs.declared.margin.Margin.{Margin}
 use Rattle.pieces.specs.declared.piece.Piece.{Piece}
-use Rattle.meaning.specs.Readings.{Readings}
 use Rattle.scripts.specs.declared.reply.Reply.TheVariants.{MarkedTruth, MarkedMargin}
-use Rattle.scripts.specs.Told.{marks_in}
+use Rattle.scripts.specs.Events.{marks_in}
 
 pub judge_recounted : (K : Kind) (s : State) (rows : List Row) (t : ℕ) (r : Result (Span K.Value) ℕ) {a b : ℕ} → a ≡ b → JudgeTurn K s rows t a r → JudgeTurn K s rows t b r
 judge_recounted K s rows t r e h = subst (λ (n : ℕ). JudgeTurn K s rows t n r) e h
@@ -51,6 +51,3 @@ truth_marks (Err f) h = omega arith
 pub margin_marks : (r : Result (Marking Margin) MarkFault) {n : ℕ} → IfOk r (λ m. m.marks ≤ n) → marks_in (MarkedMargin r) ≤ n
 margin_marks (Ok m) h = h
 margin_marks (Err f) h = omega arith
-
-pub if_ok_along : {G : Type 0} (r : Result (Marking G) MarkFault) {a b : ℕ} → a ≡ b → IfOk r (λ m. m.marks ≤ a) → IfOk r (λ m. m.marks ≤ b)
-if_ok_along r e h = subst (λ (n : ℕ). IfOk r (λ m. m.marks ≤ n)) e h

@@ -1,4 +1,7 @@
-pub mod Told
+pub mod Shared
+pub mod Events
+pub mod Moments
+pub mod Leavings
+pub mod Plays
 pub mod Hearing
 pub mod Heard
-pub mod ToldAll

@@ -2,7 +2,6 @@
 #![tactic(auto)]
 
 pub mod call;
-pub mod cells;
 pub mod listener;
 pub mod playing;
 pub mod reply;

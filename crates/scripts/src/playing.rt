@@ -1,18 +1,22 @@
-// Carrying out calls on a job.
-ghost use Rattle.std.specs.Prelude.{◌≡◌, ◌+◌, ◌≤◌, length, take, drop};
-ghost use Rattle.runs.specs.Runs.{Event, Turn};
+// Carrying out one call on a job.
+ghost use Rattle.std.specs.Prelude.{◌≡◌, ◌≤◌, length};
+ghost use Rattle.runs.specs.Runs.{Event};
 ghost use Rattle.runs.specs.Law.{LawOfRuns};
-ghost use Rattle.jobs.specs.Jobs.{state_of, SameLoan};
-ghost use Rattle.scripts.specs.Told.{kinds, counts, Told, marks_in, SameCells};
+ghost use Rattle.jobs.specs.Jobs.{state_of, cells_of, SameLoan};
+ghost use Rattle.lent.specs.Holding.{counts, SameLoans};
+ghost use Rattle.scripts.specs.Shared.{truth_and_margin};
+ghost use Rattle.scripts.specs.Events.{marks_in};
+ghost use Rattle.scripts.specs.Moments.{moment};
+ghost use Rattle.scripts.specs.Plays.{Plays};
 
 use crate::call::Call;
-use crate::cells::Cells;
 use crate::reply::Reply;
 use crate::within::{judge_within, mark_within};
 use grades::margin::Margin;
 use grades::range::Range;
 use grades::truth::Truth;
 use jobs::job::Job;
+use lent::cells::Cells;
 use meaning::mark::Mark;
 use pieces::piece::Piece;
 use runs::family::Both;
@@ -27,7 +31,7 @@ fn play_on<'a>(
     wants: &mut [Piece<bool>],
     marks: &mut [Mark],
 ) -> Reply
-    ensures turn { (e : Event kinds) × (Told (record { truths = length truths.old; margins = length margins.old; wants = length wants.old }) call.now result marks.new e × Turn kinds (state_of job.old) e (state_of job.new)) }
+    ensures plays { (e : Event truth_and_margin) × Plays call.now (record { state = state_of job.old; pieces = cells_of job.old; lent = record { truths = truths.old; margins = margins.old; wants = wants.old; marks = marks.old } }) result e (record { state = state_of job.new; pieces = cells_of job.new; lent = record { truths = truths.new; margins = margins.new; wants = wants.new; marks = marks.new } }) }
     ensures fits { marks_in result ≤ length marks.new }
     ensures loan { SameLoan job.old job.new }
 {
@@ -51,22 +55,27 @@ fn play_on<'a>(
         Call::JudgeMargin { rule, tick, rows } => {
             Reply::JudgedMargin(judge_within(job, rule, tick, rows, margins))
         }
-        Call::MarkTruth { rule, tick, room } => Reply::MarkedTruth(mark_within(
-            job, rule, tick, room, truths, wants, marks,
-        )),
-        Call::MarkMargin { rule, tick, room } => Reply::MarkedMargin(mark_within(
-            job, rule, tick, room, margins, wants, marks,
-        )),
+        Call::MarkTruth {
+            rule,
+            tick,
+            portion,
+        } => Reply::MarkedTruth(mark_within(job, rule, tick, portion, truths, wants, marks)),
+        Call::MarkMargin {
+            rule,
+            tick,
+            portion,
+        } => Reply::MarkedMargin(mark_within(job, rule, tick, portion, margins, wants, marks)),
     }
 }
 
-// Carries out one call. The call with its reply is a turn of the job, and the law of runs holds of all lists of such turns.
+/// Carries out one call. The call with its reply is a turn of the job, and the law of runs holds of every list of such turns.
 pub fn play<'a>(job: &mut Job<'a>, call: &Call<'_>, cells: &mut Cells<'_>) -> Reply
-    ensures turn { (e : Event kinds) × (Told (counts cells.old) call.now result cells.new.marks.now e × Turn kinds (state_of job.old) e (state_of job.new)) }
-    ensures law { LawOfRuns kinds }
+    ensures plays { (e : Event truth_and_margin) × Plays call.now (moment job.old cells.old) result e (moment job.new cells.new) }
+    ensures law { LawOfRuns truth_and_margin }
     ensures fits { marks_in result ≤ length cells.new.marks.now }
-    ensures kept { SameCells cells.old cells.new }
+    ensures kept { counts cells.new ≡ counts cells.old }
     ensures loan { SameLoan job.old job.new }
+    ensures loans { SameLoans cells.old cells.new }
 {
     runs_keep_the_law::<Both<Truth, Margin>>();
     play_on(
@@ -76,30 +85,5 @@ pub fn play<'a>(job: &mut Job<'a>, call: &Call<'_>, cells: &mut Cells<'_>) -> Re
         cells.margins,
         cells.wants,
         cells.marks,
-    )
-}
-
-// The same with the mark cells behind the first so many, which stay as they are.
-pub(crate) fn play_behind<'a>(
-    job: &mut Job<'a>,
-    call: &Call<'_>,
-    cells: &mut Cells<'_>,
-    used: usize,
-) -> Reply
-    requires { used ≤ length cells.old.marks.now }
-    ensures turn { (e : Event kinds) × (Told (counts cells.old) call.now result (drop used cells.new.marks.now) e × Turn kinds (state_of job.old) e (state_of job.new)) }
-    ensures fits { used + marks_in result ≤ length cells.new.marks.now }
-    ensures before { take used cells.new.marks.now ≡ take used cells.old.marks.now }
-    ensures kept { SameCells cells.old cells.new }
-    ensures loan { SameLoan job.old job.new }
-{
-    let marks = &mut *cells.marks;
-    play_on(
-        job,
-        call,
-        cells.truths,
-        cells.margins,
-        cells.wants,
-        &mut marks[used..],
     )
 }

@@ -1,52 +1,56 @@
 use Rattle.std.proofs.Common.{refl, to_z-of_z, w32, SFits, rules}
-use Rattle.grades.specs.Truths.{truths}
-use Rattle.grades.specs.Margins.{margins}
 use Rattle.runs.specs.Calls.{Table}
 use Rattle.rules.specs.Texts.{table_of}
-use Rattle.scripts.specs.Told.{entered, found, counted, sealed, in_truth, in_margin, marked_truth, marked_margin}
 use Rattle.jobs.specs.Faults.{enter_reply}
 use Rattle.jobs.specs.Jobs.{state_of}
-use Rattle.scripts.proofs.Recounting.{mark_recounted, entry_recounted, truth_marks, margin_marks, if_ok_along}
+use Rattle.scripts.specs.Events.{is_enter, is_known, is_tally, is_seal, is_judge_truth, is_judge_margin, is_mark_truth, is_mark_margin}
+use Rattle.scripts.specs.Leavings.{enter_leaves, known_leaves, tally_leaves, seal_leaves, judge_truth_leaves, judge_margin_leaves, mark_truth_leaves, mark_margin_leaves}
+use Rattle.scripts.proofs.Recounting.{entry_recounted, truth_marks, margin_marks}
 use Rattle.scripts.proofs.playing.play_on.Goals as goal
 
-pub returns-in-Enter-clause-turn : goal.returns-in-Enter-clause-turn
-returns-in-Enter-clause-turn c =
-    let e = c.in-Enter in
-    let low : SFits w32 e.lower = search rules in
-    let high : SFits w32 e.upper = search rules in
-    (_, (entered e.line e.from e.to e.lower e.upper c.enter.result e.is refl refl, entry_recounted (state_of c.args.job.now) (state_of c.enter.new.self) e.line e.from e.to (enter_reply c.enter.result) (to_z-of_z low) (to_z-of_z high) c.enter.ensures.turn))
+pub returns-in-Enter-clause-plays : goal.returns-in-Enter-clause-plays
+returns-in-Enter-clause-plays c =
+    let low : SFits w32 c.in-Enter.lower = search rules in
+    let high : SFits w32 c.in-Enter.upper = search rules in (
+      _,
+      record {
+        is = is_enter c.in-Enter.line c.in-Enter.from c.in-Enter.to c.in-Enter.lower c.in-Enter.upper c.enter.result c.in-Enter.is refl refl;
+        turn = entry_recounted (state_of c.args.job.now) (state_of c.enter.new.self) c.in-Enter.line c.in-Enter.from c.in-Enter.to (enter_reply c.enter.result) (to_z-of_z low) (to_z-of_z high) c.enter.ensures.turn;
+        leaves = enter_leaves c.in-Enter.line c.in-Enter.from c.in-Enter.to c.in-Enter.lower c.in-Enter.upper c.enter.result c.in-Enter.is refl c.enter.ensures.cells refl;
+      },
+    )
 
-pub returns-in-Known-clause-turn : goal.returns-in-Known-clause-turn
-returns-in-Known-clause-turn c = (_, (found _ _ c.in-Known.is refl refl, c.known.ensures))
+pub returns-in-Known-clause-plays : goal.returns-in-Known-clause-plays
+returns-in-Known-clause-plays c = (_, record { is = is_known _ _ c.in-Known.is refl refl; turn = c.known.ensures; leaves = known_leaves _ _ c.in-Known.is refl refl refl })
 
-pub returns-in-Tally-clause-turn : goal.returns-in-Tally-clause-turn
-returns-in-Tally-clause-turn c = (_, (counted _ c.in-Tally.is refl refl, c.tally.ensures))
+pub returns-in-Tally-clause-plays : goal.returns-in-Tally-clause-plays
+returns-in-Tally-clause-plays c = (_, record { is = is_tally _ c.in-Tally.is refl refl; turn = c.tally.ensures; leaves = tally_leaves _ c.in-Tally.is refl refl refl })
 
-pub returns-in-Seal-clause-turn : goal.returns-in-Seal-clause-turn
-returns-in-Seal-clause-turn c = (_, (sealed c.in-Seal.is refl refl, c.seal.ensures.turn))
+pub returns-in-Seal-clause-plays : goal.returns-in-Seal-clause-plays
+returns-in-Seal-clause-plays c = (_, record { is = is_seal c.in-Seal.is refl refl; turn = c.seal.ensures.turn; leaves = seal_leaves c.in-Seal.is refl c.seal.ensures.cells refl })
 
-pub returns-in-JudgeTruth-clause-turn : goal.returns-in-JudgeTruth-clause-turn
-returns-in-JudgeTruth-clause-turn c =
+pub returns-in-JudgeTruth-clause-plays : goal.returns-in-JudgeTruth-clause-plays
+returns-in-JudgeTruth-clause-plays c =
     let a : Table = record { rows = table_of c.in-JudgeTruth.rule.now; sound = c.judge_within.ensures.sound } in
-    (_, (in_truth _ _ _ _ a c.in-JudgeTruth.is refl refl refl, (c.judge_within.ensures.turn, refl)))
+    (_, record { is = is_judge_truth _ _ _ _ a c.in-JudgeTruth.is refl refl refl; turn = (c.judge_within.ensures.turn, refl); leaves = judge_truth_leaves _ _ _ _ c.in-JudgeTruth.is refl refl c.judge_within.ensures.leaves refl })
 
-pub returns-in-JudgeMargin-clause-turn : goal.returns-in-JudgeMargin-clause-turn
-returns-in-JudgeMargin-clause-turn c =
+pub returns-in-JudgeMargin-clause-plays : goal.returns-in-JudgeMargin-clause-plays
+returns-in-JudgeMargin-clause-plays c =
     let a : Table = record { rows = table_of c.in-JudgeMargin.rule.now; sound = c.judge_within-in-JudgeMargin.ensures.sound } in
-    (_, (in_margin _ _ _ _ a c.in-JudgeMargin.is refl refl refl, (c.judge_within-in-JudgeMargin.ensures.turn, refl)))
+    (_, record { is = is_judge_margin _ _ _ _ a c.in-JudgeMargin.is refl refl refl; turn = (c.judge_within-in-JudgeMargin.ensures.turn, refl); leaves = judge_margin_leaves _ _ _ _ c.in-JudgeMargin.is refl refl c.judge_within-in-JudgeMargin.ensures.leaves refl })
 
-pub returns-in-MarkTruth-clause-turn : goal.returns-in-MarkTruth-clause-turn
-returns-in-MarkTruth-clause-turn c =
+pub returns-in-MarkTruth-clause-plays : goal.returns-in-MarkTruth-clause-plays
+returns-in-MarkTruth-clause-plays c =
     let a : Table = record { rows = table_of c.in-MarkTruth.rule.now; sound = c.mark_within.ensures.sound } in
-    (_, (marked_truth _ _ _ _ a c.in-MarkTruth.is refl refl refl, (mark_recounted truths (state_of c.args.job.now) (table_of c.in-MarkTruth.rule.now) c.in-MarkTruth.tick refl refl (search rules) refl c.mark_within.ensures.turn, refl)))
+    (_, record { is = is_mark_truth _ _ _ _ a c.in-MarkTruth.is refl refl refl; turn = (c.mark_within.ensures.turn, refl); leaves = mark_truth_leaves _ _ _ _ c.in-MarkTruth.is refl refl c.mark_within.ensures.leaves refl })
 
-pub returns-in-MarkMargin-clause-turn : goal.returns-in-MarkMargin-clause-turn
-returns-in-MarkMargin-clause-turn c =
+pub returns-in-MarkMargin-clause-plays : goal.returns-in-MarkMargin-clause-plays
+returns-in-MarkMargin-clause-plays c =
     let a : Table = record { rows = table_of c.in-MarkMargin.rule.now; sound = c.mark_within-in-MarkMargin.ensures.sound } in
-    (_, (marked_margin _ _ _ _ a c.in-MarkMargin.is refl refl refl, (mark_recounted margins (state_of c.args.job.now) (table_of c.in-MarkMargin.rule.now) c.in-MarkMargin.tick refl refl (search rules) refl c.mark_within-in-MarkMargin.ensures.turn, refl)))
+    (_, record { is = is_mark_margin _ _ _ _ a c.in-MarkMargin.is refl refl refl; turn = (c.mark_within-in-MarkMargin.ensures.turn, refl); leaves = mark_margin_leaves _ _ _ _ c.in-MarkMargin.is refl refl c.mark_within-in-MarkMargin.ensures.leaves refl })
 
 pub returns-in-MarkTruth-clause-fits : goal.returns-in-MarkTruth-clause-fits
-returns-in-MarkTruth-clause-fits c = truth_marks c.mark_within.result (if_ok_along c.mark_within.result (search rules) c.mark_within.ensures.fits)
+returns-in-MarkTruth-clause-fits c = truth_marks c.mark_within.result c.mark_within.ensures.fits
 
 pub returns-in-MarkMargin-clause-fits : goal.returns-in-MarkMargin-clause-fits
-returns-in-MarkMargin-clause-fits c = margin_marks c.mark_within-in-MarkMargin.result (if_ok_along c.mark_within-in-MarkMargin.result (search rules) c.mark_within-in-MarkMargin.ensures.fits)
+returns-in-MarkMargin-clause-fits c = margin_marks c.mark_within-in-MarkMargin.result c.mark_within-in-MarkMargin.ensures.fits

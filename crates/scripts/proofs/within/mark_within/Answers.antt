@@ -5,6 +5,7 @@ use Rattle.rules.specs.Texts.{table_of}
 use Rattle.runs.specs.States.{readings_of}
 use Rattle.jobs.specs.Jobs.{state_of}
 use Rattle.scripts.proofs.Recounting.{mark_recounted, marks_front, marks_fit}
+use Rattle.scripts.proofs.Fronts.{marked_front}
 use Rattle.scripts.proofs.within.mark_within.Goals as goal
 
 pub returns-clause-sound : goal.returns-clause-sound
@@ -17,3 +18,8 @@ returns-clause-turn g c =
 
 pub returns-clause-fits : goal.returns-clause-fits
 returns-clause-fits g c = marks_fit g.G.Grade.kind g.G.Grade.value (table_of c.args.rule.now) (readings_of (state_of c.args.job.now)) c.args.tick _ _ _ _ _ _ c.mark.result (search rules) c.mark.ensures.cells
+
+pub returns-clause-leaves : goal.returns-clause-leaves
+returns-clause-leaves g c =
+    marked_front g.G.Grade.kind g.G.Grade.value (table_of c.args.rule.now) (state_of c.args.job.now) c.args.tick c.args.portion _ _ _ c.args.cells.now c.mark.new.cells c.args.wants.now c.mark.new.wants c.args.marks.now c.mark.new.marks c.mark.result
+    (search rules) (search rules) (search rules) (search rules) (search rules) (search rules) c.mark.ensures.cells
