@@ -9,6 +9,7 @@ use Rattle.runs.specs.States.{State, opened, line_count}
 use Rattle.runs.specs.Calls.{Table, JudgeTurn, Marking, MarkTurn}
 use Rattle.runs.proofs.Exists.{EndsAt, enter_goes, judge_goes, mark_goes}
 use Rattle.runs.proofs.Turns.{opened_reads}
+use Rattle.lent.specs.Holding.{CellCounts}
 use Rattle.cases.specs.declared.fault.CaseRefusal.{CaseRefusal}
 use Rattle.cases.specs.declared.fault.CaseFault.TheVariants.{TooLong}
 use Rattle.cases.specs.Contents.{Item, name, rule, entry, tick}
@@ -17,7 +18,7 @@ use Rattle.cases.specs.Headings.{refusal, Opened, Opens}
 use Rattle.cases.proofs.OpenedRules.{opened_sound}
 use Rattle.cases.proofs.SomeStep.{Found, ends, refuses, goes, found}
 use Rattle.case_lines.specs.Lines.{refused_line, refusal_line, entry_text}
-use Rattle.case_lines.specs.Listings.{CellCounts, Ticks, no_truth, no_margin, no_marks, verdict, Does, enters, ticks, Lists, ended, refused, does, Lent, Listing, too_long, no_heading, listed}
+use Rattle.case_lines.specs.Listings.{Ticks, no_truth, no_margin, no_marks, verdict, Does, enters, ticks, Lists, ended, refused, does, Lent, Listing, too_long, no_heading, listed}
 use Rattle.case_lines.specs.Runs.{kinds}
 use Rattle.case_lines.specs.Laws.{SomeListing}
 
