@@ -27,7 +27,7 @@ pub returns-in-Tally-clause-plays : goal.returns-in-Tally-clause-plays
 returns-in-Tally-clause-plays c = (_, record { is = is_tally _ c.in-Tally.is refl refl; turn = c.tally.ensures; leaves = tally_leaves _ c.in-Tally.is refl refl refl })
 
 pub returns-in-Seal-clause-plays : goal.returns-in-Seal-clause-plays
-returns-in-Seal-clause-plays c = (_, record { is = is_seal c.in-Seal.is refl refl; turn = c.seal.ensures.turn; leaves = seal_leaves c.in-Seal.is refl c.seal.ensures.cells refl })
+returns-in-Seal-clause-plays c = (_, record { is = is_seal c.in-Seal.is refl refl; turn = search rules; leaves = seal_leaves c.in-Seal.is refl (search rules) refl })
 
 pub returns-in-JudgeTruth-clause-plays : goal.returns-in-JudgeTruth-clause-plays
 returns-in-JudgeTruth-clause-plays c =
