@@ -2,6 +2,7 @@
 use Rattle.std.proofs.Common.{◌≡◌, ℕ, List, [], ◌++◌, Some, None, Ok, Err, Result, sym, refl, ap, ◌∙◌, subst, append_assoc, append-nil}
 use Rattle.rules.specs.declared.row.Row.{Row}
 use Rattle.runs.specs.States.{State}
+use Rattle.lent.specs.Holding.{CellCounts}
 use Rattle.cases.specs.declared.call.Call.{Call}
 use Rattle.cases.specs.declared.call.Call.TheVariants.{Enter, Judge}
 use Rattle.cases.specs.declared.fault.CaseRefusal.{CaseRefusal}
@@ -10,7 +11,7 @@ use Rattle.cases.specs.Steps.{Stepped, Steps, call_item}
 use Rattle.case_lines.specs.Lines.{refusal_line}
 use Rattle.case_lines.specs.Writes.{AddsSome}
 use Rattle.case_lines.specs.Calls.{Enters}
-use Rattle.case_lines.specs.Listings.{CellCounts, Ticks, Does, enters, ticks, Lists, ended, refused, does}
+use Rattle.case_lines.specs.Listings.{Ticks, Does, enters, ticks, Lists, ended, refused, does}
 
 pub weaker : {E : Type 0} (P Q : List ℕ → Type 0) (before after : List ℕ) (r : Result (Unit {0}) E) → ((v : List ℕ) → P v → Q v) → AddsSome before r P after → AddsSome before r Q after
 weaker P Q before after (Ok u) f h = (h.0, f h.0 h.1, h.2)

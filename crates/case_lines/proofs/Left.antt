@@ -14,18 +14,19 @@ use Rattle.jobs.specs.Faults.{enter_reply}
 use Rattle.jobs.specs.Jobs.{cells_of, state_of}
 use Rattle.jobs.specs.Lines.{noted_count}
 use Rattle.jobs.proofs.Parts.{length_lines, line_at}
+use Rattle.lent.specs.Holding.{Contents, SameLoans}
 use Rattle.cases.specs.declared.call.Call.{Call}
 use Rattle.cases.specs.declared.call.Call.TheVariants.{Enter, Judge}
 use Rattle.cases.specs.declared.fault.CaseRefusal.{CaseRefusal}
 use Rattle.cases.specs.declared.field.Entry.{Entry}
 use Rattle.cases.specs.Headings.{Opened, Opens}
 use Rattle.cases.specs.Steps.{Sized, Stepped, Steps, call_item}
-use Rattle.case_lines.specs.declared.cells.Cells.{Cells}
+use Rattle.lent.specs.declared.cells.Cells.{Cells}
 use Rattle.case_lines.specs.declared.fault.ListFault.{ListFault}
 use Rattle.case_lines.specs.declared.fault.ListFault.TheVariants.{Refused, NoMemory}
 use Rattle.case_lines.specs.Writes.{AddsSome}
 use Rattle.case_lines.specs.Calls.{Enters}
-use Rattle.case_lines.specs.Leaves.{Contents, SameLoans, TickLeaves, FieldLeaves, enters, ticks, FieldsLeave, ended, refused, does, LinesLie, CarriedOn, CaseLeaves, carried, InMemory}
+use Rattle.case_lines.specs.Leaves.{TickLeaves, FieldLeaves, enters, ticks, FieldsLeave, ended, refused, does, LinesLie, CarriedOn, CaseLeaves, carried, InMemory}
 
 pub same_twice : (a b c : Cells) → SameLoans a b → SameLoans b c → SameLoans a c
 same_twice a b c p q = (q.0 ∙ p.0, q.1 ∙ p.1, q.2 ∙ p.2, q.3 ∙ p.3)

@@ -5,11 +5,12 @@ use Rattle.runs.specs.States.{State, opened, line_count}
 use Rattle.runs.specs.Calls.{Table}
 use Rattle.runs.specs.Runs.{Event, Turn, Ran}
 use Rattle.runs.proofs.Turns.{ran_split, ran_join}
+use Rattle.lent.specs.Holding.{CellCounts}
 use Rattle.cases.specs.Contents.{Item}
 use Rattle.cases.specs.Headings.{Opened}
 use Rattle.cases.proofs.OneReading.{one_opening}
 use Rattle.cases.proofs.OpenedRules.{opened_sound, heading_apart, same_heading}
-use Rattle.case_lines.specs.Listings.{CellCounts, Ticks, Does, Lists, Lent, Listing, too_long, no_heading, listed}
+use Rattle.case_lines.specs.Listings.{Ticks, Does, Lists, Lent, Listing, too_long, no_heading, listed}
 use Rattle.case_lines.specs.Listings as does
 use Rattle.case_lines.specs.Runs.{entered, in_truth, in_margin, marking, Prints, enters, no_truth, no_margin, no_marks, verdict, AllPrint, ended, refused, prints, ListingsRun, RunsList}
 use Rattle.case_lines.proofs.OneListing.{sized_one}

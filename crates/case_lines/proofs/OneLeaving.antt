@@ -32,12 +32,13 @@ use Rattle.judge.specs.Faults.{judge_number, mark_number}
 use Rattle.judge.specs.Cells.{BeginsWith, RunsOut, Complete, CutShort, WantsComplete, WantsCut, MarksComplete, MarksCut}
 use Rattle.judge.specs.Answers.{RefusedCells}
 use Rattle.judge.proofs.Pinned.{row_lists_one}
+use Rattle.lent.specs.Holding.{Contents}
 use Rattle.cases.specs.declared.field.Entry.{Entry}
 use Rattle.cases.specs.Contents.{Item}
 use Rattle.cases.specs.Headings.{Opened}
 use Rattle.cases.specs.Steps.{Stepped}
 use Rattle.cases.proofs.OneReading.{one_opening, one_step}
-use Rattle.case_lines.specs.Leaves.{Contents, Judges, MarksIn, TickLeaves, no_truth, no_margin, marked, FieldLeaves, enters, ticks, FieldsLeave, ended, refused, does, LinesLie, too_long, no_heading, carried, OneLeaving}
+use Rattle.case_lines.specs.Leaves.{Judges, MarksIn, TickLeaves, no_truth, no_margin, marked, FieldLeaves, enters, ticks, FieldsLeave, ended, refused, does, LinesLie, too_long, no_heading, carried, OneLeaving}
 use Rattle.case_lines.proofs.OneListing.{entry_tick, same_entry, same_tick, sized_one}
 
 ok_err : {A E : Type 0} (x : A) (e : E) → ◌≡◌ {A = Result A E} (Ok x) (Err e) → ⊥

@@ -13,6 +13,7 @@ use Rattle.runs.specs.Jobs.{enter}
 use Rattle.runs.specs.Calls.{judge_asks, mark_asks, JudgeTurn, Marking, MarkTurn}
 use Rattle.runs.proofs.Conditions.{one_failing}
 use Rattle.runs.proofs.Unique.{job_one}
+use Rattle.lent.specs.Holding.{CellCounts}
 use Rattle.cases.specs.declared.fault.CaseRefusal.{CaseRefusal}
 use Rattle.cases.specs.declared.field.Entry.{Entry}
 use Rattle.cases.specs.Contents.{Item, entry, tick}
@@ -22,7 +23,7 @@ use Rattle.cases.proofs.OneReading.{one_opening, one_step}
 use Rattle.cases.proofs.OpenedRules.{heading_apart, same_heading}
 use Rattle.case_lines.specs.Lines.{refused_line, refusal_line, verdict_line, mark_lines, entry_text}
 use Rattle.case_lines.specs.Calls.{Enters}
-use Rattle.case_lines.specs.Listings.{CellCounts, Ticks, no_truth, no_margin, no_marks, verdict, Does, enters, ticks, Lists, ended, refused, does, too_long, no_heading, listed}
+use Rattle.case_lines.specs.Listings.{Ticks, no_truth, no_margin, no_marks, verdict, Does, enters, ticks, Lists, ended, refused, does, too_long, no_heading, listed}
 use Rattle.case_lines.specs.Laws.{OneListing}
 
 apart : {A : Type 0} (x : A) (n : ℕ) → ◌≡◌ {A = Result A ℕ} (Ok x) (Err n) → ⊥

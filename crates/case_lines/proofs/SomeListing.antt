@@ -13,6 +13,7 @@ use Rattle.runs.specs.Runs.{on_job, event}
 use Rattle.runs.proofs.Settings.{EndsAt}
 use Rattle.runs.proofs.Exists.{enter_goes, judge_goes, mark_goes}
 use Rattle.runs.proofs.Turns.{turn_ends, opened_reads}
+use Rattle.lent.specs.Holding.{CellCounts}
 use Rattle.cases.specs.declared.fault.CaseRefusal.{CaseRefusal}
 use Rattle.cases.specs.declared.fault.CaseFault.TheVariants.{TooLong}
 use Rattle.cases.specs.Contents.{Item, name, rule, entry, tick}
@@ -21,7 +22,7 @@ use Rattle.cases.specs.Headings.{refusal, Opened, Opens}
 use Rattle.cases.proofs.OpenedRules.{opened_sound}
 use Rattle.cases.proofs.SomeStep.{Found, ends, refuses, goes, found}
 use Rattle.case_lines.specs.Lines.{refused_line, refusal_line, entry_text}
-use Rattle.case_lines.specs.Listings.{CellCounts, Ticks, no_truth, no_margin, no_marks, verdict, Does, enters, ticks, Lists, ended, refused, does, Lent, Listing, too_long, no_heading, listed}
+use Rattle.case_lines.specs.Listings.{Ticks, no_truth, no_margin, no_marks, verdict, Does, enters, ticks, Lists, ended, refused, does, Lent, Listing, too_long, no_heading, listed}
 use Rattle.case_lines.specs.Laws.{SomeListing}
 
 -- nothing is known past the last tick that an entry may name

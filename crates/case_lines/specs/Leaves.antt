@@ -20,29 +20,14 @@ use Rattle.judge.specs.declared.fault.JudgeFault.{JudgeFault}
 use Rattle.judge.specs.declared.fault.MarkFault.{MarkFault}
 use Rattle.judge.specs.declared.marking.Marking.{Marking}
 use Rattle.judge.specs.Answers.{judge_reply, JudgeCells, mark_reply, MarkedCells}
+use Rattle.lent.specs.Holding.{Contents}
 use Rattle.cases.specs.declared.fault.CaseRefusal.{CaseRefusal}
 use Rattle.cases.specs.declared.field.Entry.{Entry}
 use Rattle.cases.specs.Contents.{Item, entry, tick}
 use Rattle.cases.specs.Headings.{Opened, Opens}
 use Rattle.cases.specs.Steps.{Sized, Stepped, Steps}
-use Rattle.case_lines.specs.declared.cells.Cells.{Cells}
 use Rattle.case_lines.specs.declared.fault.ListFault.{ListFault}
 use Rattle.case_lines.specs.declared.fault.ListFault.TheVariants.{Refused, NoMemory}
-
--- what the cells of each sort hold that are lent to the judge
-pub record Contents : Type 0 where
-  pub truths : List (Piece (Range Truth))
-  pub margins : List (Piece (Range Margin))
-  pub wants : List (Piece Bool)
-  pub marks : List Mark
-
-abbrev pub contents : Cells → Contents
-contents c = record { truths = c.truths.now; margins = c.margins.now; wants = c.wants.now; marks = c.marks.now }
-
--- the same four loans
-abbrev pub SameLoans : Cells → Cells → Type 0
-SameLoans before after =
-    (after.truths.ghost_name ≡ before.truths.ghost_name) × (after.margins.ghost_name ≡ before.margins.ghost_name) × (after.wants.ghost_name ≡ before.wants.ghost_name) × (after.marks.ghost_name ≡ before.marks.ghost_name)
 
 module _ (rows : List Row) where
   module _ (s : State) (t : ℕ) where

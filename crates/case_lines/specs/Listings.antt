@@ -12,19 +12,9 @@ use Rattle.cases.specs.declared.field.Entry.{Entry}
 use Rattle.cases.specs.Contents.{Item, entry, tick}
 use Rattle.cases.specs.Headings.{Opened, Opens}
 use Rattle.cases.specs.Steps.{Sized, Stepped, Steps}
-use Rattle.case_lines.specs.declared.cells.Cells.{Cells}
+use Rattle.lent.specs.Holding.{CellCounts}
 use Rattle.case_lines.specs.Lines.{refused_line, refusal_line, verdict_line, mark_lines}
 use Rattle.case_lines.specs.Calls.{Enters}
-
--- how many cells of each sort are lent to the judge
-pub record CellCounts : Type 0 where
-  pub truth_rows : ℕ
-  pub margin_rows : ℕ
-  pub wants : ℕ
-  pub marks : ℕ
-
-abbrev pub counts : Cells → CellCounts
-counts c = record { truth_rows = length c.truths.now; margin_rows = length c.margins.now; wants = length c.wants.now; marks = length c.marks.now }
 
 module _ (cells : CellCounts) (rows : List Row) where
   -- field k is a tick: with so many cells lent, the rule is judged in truth, judged in margin and marked in truth, up to the first refusal

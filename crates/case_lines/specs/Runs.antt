@@ -16,7 +16,8 @@ use Rattle.cases.specs.Contents.{Item, entry, tick}
 use Rattle.cases.specs.Headings.{Opened, Opens}
 use Rattle.cases.specs.Steps.{Sized, Stepped, Steps}
 use Rattle.case_lines.specs.Lines.{refused_line, refusal_line, verdict_line, mark_lines, entry_text}
-use Rattle.case_lines.specs.Listings.{CellCounts, Lent, Listing}
+use Rattle.lent.specs.Holding.{CellCounts}
+use Rattle.case_lines.specs.Listings.{Lent, Listing}
 
 -- an entry's call with its reply
 abbrev pub entered : Entry → Result JobAnswer ℕ → Event truth_and_margin

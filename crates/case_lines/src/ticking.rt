@@ -8,10 +8,10 @@ ghost use Rattle.meaning.specs.Outcomes.{outcome_at};
 ghost use Rattle.case_lines.specs.Lines.{verdict_line, mark_lines};
 ghost use Rattle.case_lines.specs.Writes.{Adds, AddsSome};
 ghost use Rattle.case_lines.specs.Calls.{told_text};
-ghost use Rattle.case_lines.specs.Listings.{Ticks, counts};
-ghost use Rattle.case_lines.specs.Leaves.{TickLeaves, contents, SameLoans};
+ghost use Rattle.lent.specs.Holding.{contents, counts, SameLoans};
+ghost use Rattle.case_lines.specs.Listings.{Ticks};
+ghost use Rattle.case_lines.specs.Leaves.{TickLeaves};
 
-use crate::cells::Cells;
 use crate::lines::OutcomeText;
 use crate::writing::{write_marks, write_refused};
 use grades::margin::Margin;
@@ -21,6 +21,7 @@ use jobs::job::Job;
 use judge::fault::MarkFault;
 use judge::judging::judge;
 use judge::marking::mark;
+use lent::cells::Cells;
 use meaning::outcome::Outcome;
 use rules::rule::Rule;
 use std::alloc::AllocError;
@@ -34,24 +35,22 @@ pub(crate) struct Told {
     marks: usize,
 }
 
-impl Cells<'_> {
-    // Judges at the tick in truth and in margin, and marks; or the first that stands against it.
-    fn tell<'j>(&mut self, job: &Job<'j>, rule: &Rule, tick: u32) -> Result<Told, MarkFault>
-        ensures told { (k : ℕ) → Ticks (counts self.old) (table_of rule.now) k tick (state_of job.now) (told_text k tick self.new.marks.now result) }
-        ensures fits { IfOk result (λ x. x.marks ≤ length self.new.marks.now) }
-        ensures kept { counts self.new ≡ counts self.old }
-        ensures leaves { TickLeaves (table_of rule.now) (state_of job.now) tick (contents self.old) (contents self.new) }
-        ensures loans { SameLoans self.old self.new }
-    {
-        let verdict = judge(job, rule, tick, self.truths)?;
-        let margin = judge(job, rule, tick, self.margins)?;
-        let marking = mark(job, rule, tick, self.truths, self.wants, self.marks)?;
-        Ok(Told {
-            verdict,
-            margin,
-            marks: marking.marks,
-        })
-    }
+// Judges at the tick in truth and in margin, and marks; or the first that stands against it.
+fn tell<'j>(cells: &mut Cells<'_>, job: &Job<'j>, rule: &Rule, tick: u32) -> Result<Told, MarkFault>
+    ensures told { (k : ℕ) → Ticks (counts cells.old) (table_of rule.now) k tick (state_of job.now) (told_text k tick cells.new.marks.now result) }
+    ensures fits { IfOk result (λ x. x.marks ≤ length cells.new.marks.now) }
+    ensures kept { counts cells.new ≡ counts cells.old }
+    ensures leaves { TickLeaves (table_of rule.now) (state_of job.now) tick (contents cells.old) (contents cells.new) }
+    ensures loans { SameLoans cells.old cells.new }
+{
+    let verdict = judge(job, rule, tick, cells.truths)?;
+    let margin = judge(job, rule, tick, cells.margins)?;
+    let marking = mark(job, rule, tick, cells.truths, cells.wants, cells.marks)?;
+    Ok(Told {
+        verdict,
+        margin,
+        marks: marking.marks,
+    })
 }
 
 // The verdict's line, and a line for each of the marks, which lie in the mark cells.
@@ -81,7 +80,7 @@ pub(crate) fn write_tick<'a>(
     ensures leaves { TickLeaves (table_of rule.now) (state_of job.now) tick (contents cells.old) (contents cells.new) }
     ensures loans { SameLoans cells.old cells.new }
 {
-    match cells.tell(job, rule, tick) {
+    match tell(cells, job, rule, tick) {
         Ok(told) => write_told(text, tick, told, cells),
         Err(fault) => write_refused(text, fault.number(), field),
     }

@@ -4,11 +4,11 @@
 ghost use Rattle.std.specs.Prelude.{IfOk, string_bytes};
 ghost use Rattle.case_samples.specs.Samples.{Listed, FaultShown, Shown};
 
-use case_lines::cells::{
-    BLANK_MARK, BLANK_WANT, Cells, MARKS, PIECES, ROWS, WANTS, blank_piece, blank_row,
-};
+use case_lines::cells::{MARKS, PIECES, ROWS, WANTS};
 use case_lines::listing::list_case;
 use case_text::{PackFault, pack};
+use lent::blank::{BLANK_MARK, BLANK_WANT, blank_piece, blank_row};
+use lent::cells::Cells;
 use std::alloc::{AllocError, Global};
 use std::{fs, io};
 

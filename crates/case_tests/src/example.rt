@@ -2,8 +2,10 @@
 ghost use Rattle.std.specs.Prelude.{min, length, IfOk, string_bytes};
 ghost use Rattle.case_lines.specs.Listings.{Listing, lent_cells};
 
-use case_lines::cells::{BLANK_MARK, BLANK_WANT, Cells, PIECES, blank_piece, blank_row};
+use case_lines::cells::PIECES;
 use case_lines::listing::list_case;
+use lent::blank::{BLANK_MARK, BLANK_WANT, blank_piece, blank_row};
+use lent::cells::Cells;
 use std::alloc::{AllocError, Global};
 use std::io;
 

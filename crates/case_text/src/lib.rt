@@ -5,11 +5,11 @@ pub mod fault;
 mod field;
 mod keyword;
 pub mod laws;
-mod line;
-mod number;
+pub mod line;
+pub mod number;
 pub mod packing;
-mod split;
-mod word;
+pub mod split;
+pub mod word;
 
 pub use crate::fault::PackFault;
 pub use crate::packing::pack;

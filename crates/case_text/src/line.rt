@@ -16,18 +16,18 @@ const COMMENT: u8 = b'#';
 // The most bytes of a rule, since a field has no more.
 const RULE_BYTES: usize = 65_535;
 
-// The words of an entry.
+/// The words of an entry.
 #[derive(Clone, Copy)]
-pub(crate) struct EntryWords<'a> {
-    which: &'a [u8],
-    begin: &'a [u8],
-    end: &'a [u8],
-    low: &'a [u8],
-    high: &'a [u8],
+pub struct EntryWords<'a> {
+    pub which: &'a [u8],
+    pub begin: &'a [u8],
+    pub end: &'a [u8],
+    pub low: &'a [u8],
+    pub high: &'a [u8],
 }
 
-// Whether the line means nothing.
-pub(crate) fn is_silent(line: &[u8]) -> bool
+/// Whether the line means nothing: it is empty, or a comment.
+pub fn is_silent(line: &[u8]) -> bool
     ensures { Decides result (Silent line.now) }
 {
     match line {
@@ -48,8 +48,9 @@ fn rule_of<'a>(text: &'a [u8]) -> Option<Content<'a>>
     (text.len() <= RULE_BYTES).then_some(Content::Rule(text))
 }
 
-// The five words, if there are five. Each is named as it is cut.
-fn five_words<'a>(words: &'a [u8]) -> Option<EntryWords<'a>>
+/// The five words, if there are five.
+// Each is named as it is cut.
+pub fn five_words<'a>(words: &'a [u8]) -> Option<EntryWords<'a>>
     ensures { Five words.now result }
 {
     let one = split_at(words, SPACE)?;

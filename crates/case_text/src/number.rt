@@ -22,8 +22,8 @@ fn ten_digits(word: &[u8]) -> Option<i64>
     Some(value as i64)
 }
 
-// The whole number that a word writes.
-pub(crate) fn whole(word: &[u8]) -> Option<u32>
+/// The whole number that a word writes, in one to ten digits.
+pub fn whole(word: &[u8]) -> Option<u32>
     ensures { Reads (Whole word.now) result }
 {
     u32::try_from(ten_digits(word)?).ok()
@@ -43,8 +43,8 @@ fn minus(digits: &[u8]) -> Option<i32>
     i32::try_from(-ten_digits(digits)?).ok()
 }
 
-// The reading that a word writes.
-pub(crate) fn reading(word: &[u8]) -> Option<i32>
+/// The reading that a word writes, in one to ten digits, with `-` before them or without.
+pub fn reading(word: &[u8]) -> Option<i32>
     ensures { Reads (Reading word.now) result }
 {
     match word {

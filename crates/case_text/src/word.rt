@@ -6,7 +6,8 @@ ghost use Rattle.case_text.specs.Parts.{Reads};
 
 use cases::field::NAME_BYTES;
 
-pub(crate) const SPACE: u8 = b' ';
+/// What stands between words.
+pub const SPACE: u8 = b' ';
 
 // How many names an entry can go by.
 const NAMES: usize = 256;
@@ -17,8 +18,9 @@ pub(crate) fn is_line_name(word: &[u8]) -> bool
     !word.is_empty() && word.len() <= NAME_BYTES && !word.contains(&SPACE)
 }
 
-// The number of the first of the names that is this word. One library call, as where a rule is read, which has another bound and another clause.
-pub(crate) fn line_of(names: &[&[u8]], word: &[u8]) -> Option<u8>
+/// The number of the first of the names that is this word, if it is one of the first 256.
+// One library call, as where a rule is read, which has another bound and another clause.
+pub fn line_of(names: &[&[u8]], word: &[u8]) -> Option<u8>
     ensures { Reads (First (texts names.now) word.now) result }
 {
     let line = names.iter().take(NAMES).position(|name| *name == word)?;

@@ -6,7 +6,7 @@ pub mod fault;
 pub mod field;
 pub mod heading;
 pub mod laws;
-mod names;
+pub mod names;
 pub mod number;
 pub mod opening;
 pub mod reader;

@@ -7,8 +7,8 @@ ghost use Rattle.cases.specs.Orders.{Admits};
 use crate::field::NAME_BYTES;
 use tokens::lexer::is_name_byte;
 
-// The most names of a case.
-pub(crate) const NAMES: usize = 16;
+/// The most names of a case.
+pub const NAMES: usize = 16;
 
 // A small letter, and up to seven small letters and digits.
 fn is_name(word: &[u8]) -> bool
@@ -20,8 +20,8 @@ fn is_name(word: &[u8]) -> bool
     first.is_ascii_lowercase() && word.len() <= NAME_BYTES && word.iter().all(is_name_byte)
 }
 
-// Whether the word may be the next name behind these.
-pub(crate) fn admits(names: &[&[u8]], word: &[u8]) -> bool
+/// Whether the word may be the next name behind these: it is a name, it is none of them, and they are fewer than 16.
+pub fn admits(names: &[&[u8]], word: &[u8]) -> bool
     ensures { Decides result (Admits (texts names.now) word.now) }
 {
     names.len() < NAMES && is_name(word) && !names.contains(&word)

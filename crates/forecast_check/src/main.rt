@@ -5,11 +5,11 @@ ghost use Rattle.std.specs.Prelude.{◌≡◌, ◌<◌, ◌≤◌, length, take,
 ghost use Rattle.std.specs.Io.KnownBytes.{Consumes, IsAtEnd};
 ghost use Rattle.case_lines.specs.Listings.{Listing, lent_cells};
 
-use case_lines::cells::{
-    BLANK_MARK, BLANK_WANT, Cells, MARKS, PIECES, ROWS, WANTS, blank_piece, blank_row,
-};
+use case_lines::cells::{MARKS, PIECES, ROWS, WANTS};
 use case_lines::listing::list_case;
 use cases::stepping::CASE_BYTES;
+use lent::blank::{BLANK_MARK, BLANK_WANT, blank_piece, blank_row};
+use lent::cells::Cells;
 use std::alloc::{AllocError, Global};
 use std::io;
 use std::io::Read;

@@ -1,5 +1,6 @@
 use Rattle.std.proofs.Common.{length, string_bytes}
-use Rattle.case_lines.specs.Listings.{Lent, counts}
+use Rattle.lent.specs.Holding.{counts}
+use Rattle.case_lines.specs.Listings.{Lent}
 use Rattle.case_lines.proofs.Whole.{alone, refused}
 use Rattle.case_lines.proofs.listing.list_case.Goals as goal
 

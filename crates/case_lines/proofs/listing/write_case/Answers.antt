@@ -4,10 +4,11 @@ use Rattle.rules.specs.Texts.{table_of}
 use Rattle.pieces.specs.declared.piece.Piece.{Piece}
 use Rattle.meaning.specs.declared.reading.Reading.{Reading}
 use Rattle.jobs.specs.Jobs.{state_of}
+use Rattle.lent.specs.Holding.{contents, counts}
 use Rattle.cases.specs.Readers.{left_of, next_of}
 use Rattle.cases.specs.Headings.{Opened}
-use Rattle.case_lines.specs.Listings.{Lent, counts}
-use Rattle.case_lines.specs.Leaves.{CaseLeaves, InMemory, contents, too_long, no_heading}
+use Rattle.case_lines.specs.Listings.{Lent}
+use Rattle.case_lines.specs.Leaves.{CaseLeaves, InMemory, too_long, no_heading}
 use Rattle.case_lines.proofs.Left.{case_left}
 use Rattle.case_lines.proofs.Whole.{long, unopened, carried, whole}
 use Rattle.case_lines.proofs.listing.write_case.Goals as goal

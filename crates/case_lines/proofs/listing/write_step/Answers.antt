@@ -1,8 +1,7 @@
 use Rattle.std.proofs.Common.{string_bytes, refl}
 use Rattle.rules.specs.Texts.{table_of}
 use Rattle.jobs.specs.Jobs.{state_of}
-use Rattle.case_lines.specs.Listings.{counts}
-use Rattle.case_lines.specs.Leaves.{contents}
+use Rattle.lent.specs.Holding.{contents, counts}
 use Rattle.case_lines.proofs.Carried.{entry_done, tick_done}
 use Rattle.case_lines.proofs.Left.{entry_leaves, tick_leaves}
 use Rattle.case_lines.proofs.listing.write_step.Goals as goal

@@ -2,11 +2,10 @@ use Rattle.std.proofs.Common.{Ok, string_bytes, Option, ◌∙◌, subst}
 use Rattle.std.proofs.lemmas.Result.{err_from_is_err_and}
 use Rattle.rules.specs.Texts.{table_of}
 use Rattle.jobs.specs.Jobs.{state_of}
+use Rattle.lent.specs.Holding.{contents, counts}
 use Rattle.cases.specs.declared.call.Step.{Step}
 use Rattle.cases.specs.Readers.{left_of, next_of}
 use Rattle.cases.specs.Steps.{Stepped, Steps, call_item, step_reply}
-use Rattle.case_lines.specs.Listings.{counts}
-use Rattle.case_lines.specs.Leaves.{contents}
 use Rattle.case_lines.proofs.Carried.{onward, over, stopped}
 use Rattle.case_lines.proofs.Left.{left_onward, left_over, left_stopped, carried_twice, same_twice}
 use Rattle.case_lines.proofs.listing.write_steps.Goals as goal

@@ -1,9 +1,9 @@
 use Rattle.std.proofs.Common.{◌≡◌, length, string_bytes}
 use Rattle.rules.specs.Texts.{table_of}
 use Rattle.jobs.specs.Jobs.{state_of, SameLoan}
+use Rattle.lent.specs.Holding.{SameLoans, contents, counts}
 use Rattle.cases.specs.Readers.{left_of, next_of}
-use Rattle.case_lines.specs.Listings.{counts}
-use Rattle.case_lines.specs.Leaves.{CarriedOn, SameLoans, contents}
+use Rattle.case_lines.specs.Leaves.{CarriedOn}
 use Rattle.case_lines.proofs.Carried.{Sofar}
 use Rattle.case_lines.proofs.Left.{LeftSofar}
 use Rattle.case_lines.proofs.listing.write_steps.Given as goal

@@ -1,8 +1,9 @@
 use Rattle.std.proofs.Common.{string_bytes}
 use Rattle.rules.specs.Texts.{table_of}
 use Rattle.jobs.specs.Jobs.{state_of}
+use Rattle.lent.specs.Holding.{counts}
 use Rattle.case_lines.specs.Lines.{refused_line}
-use Rattle.case_lines.specs.Listings.{Ticks, counts}
+use Rattle.case_lines.specs.Listings.{Ticks}
 use Rattle.case_lines.proofs.Adding.{some}
 use Rattle.case_lines.proofs.ticking.write_tick.Goals as goal
 

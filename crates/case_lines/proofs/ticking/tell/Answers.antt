@@ -11,7 +11,7 @@ use Rattle.case_lines.specs.Lines.{verdict_line}
 use Rattle.case_lines.specs.Listings.{no_truth, no_margin, no_marks, verdict}
 use Rattle.case_lines.specs.Leaves.{no_truth as left_no_truth, no_margin as left_no_margin, marked as left_marked}
 use Rattle.case_lines.proofs.Ticked.{recounted, counted}
-use Rattle.case_lines.proofs.cells.Cells.tell.Goals as goal
+use Rattle.case_lines.proofs.ticking.tell.Goals as goal
 
 pub returns-in_err-verdict-clause-told : goal.returns-in_err-verdict-clause-told
 returns-in_err-verdict-clause-told c =
@@ -26,13 +26,13 @@ returns-in_err-margin-clause-told c =
 pub returns-in_err-marking-clause-told : goal.returns-in_err-marking-clause-told
 returns-in_err-marking-clause-told c =
     let p = err_from_is_err_and c.from_residual-in_err-marking.result c.from_residual-in_err-marking.ensures.1 in
-    let turn = recounted truths (state_of c.args.job.now) (table_of c.args.rule.now) c.args.tick (length c.args.self.now.wants.now) (length c.args.self.now.marks.now) (Err (mark_number c.in_err-marking.field-0.0)) c.judge.auto.cells c.in_err-marking.ensures.turn in
+    let turn = recounted truths (state_of c.args.job.now) (table_of c.args.rule.now) c.args.tick (length c.args.cells.now.wants.now) (length c.args.cells.now.marks.now) (Err (mark_number c.in_err-marking.field-0.0)) c.judge.auto.cells c.in_err-marking.ensures.turn in
     rw (p.1, p.2) (λ k. no_marks _ _ _ c.in_ok-verdict.ensures.turn c.in_ok-margin.ensures.turn turn refl)
 
 pub returns-clause-told : goal.returns-clause-told
 returns-clause-told c =
     let marked : Marking truths = record { verdict = worth truths truth_value c.in_ok-marking.marking.verdict; marks = take c.in_ok-marking.marking.marks c.mark.new.marks } in
-    let turn = recounted truths (state_of c.args.job.now) (table_of c.args.rule.now) c.args.tick (length c.args.self.now.wants.now) (length c.args.self.now.marks.now) (Ok marked) c.judge.auto.cells c.in_ok-marking.ensures.turn in
+    let turn = recounted truths (state_of c.args.job.now) (table_of c.args.rule.now) c.args.tick (length c.args.cells.now.wants.now) (length c.args.cells.now.marks.now) (Ok marked) c.judge.auto.cells c.in_ok-marking.ensures.turn in
     let written = c.in_ok-marking.ensures.cells.2.1 in
     let line = λ (n : ℕ). verdict_line c.args.tick (outcome_at (worth truths truth_value c.in_ok-verdict.verdict)) c.in_ok-margin.margin.lower.number c.in_ok-margin.margin.upper.number n in
     λ k. verdict _ _ marked c.in_ok-verdict.ensures.turn c.in_ok-margin.ensures.turn turn (sym (counted line c.in_ok-marking.marking.marks c.mark.new.marks (omega (arith, written.1, written.2.fits, c.mark.auto.marks))))

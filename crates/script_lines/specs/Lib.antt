@@ -1,0 +1,3 @@
+pub mod Keywords
+pub mod Arguments
+pub mod Makes

@@ -1,0 +1,4 @@
+pub mod Recounting
+pub mod Parts
+pub mod Fronts
+pub mod Going
