@@ -1,5 +1,6 @@
 -- Listings as runs of calls.
 use Rattle.std.proofs.Common.{ℕ, List, [], ◌∷◌, ◌++◌, Ok, Err, sym, refl, ◌∙◌, subst}
+use Rattle.runs.specs.Families.{truth_and_margin}
 use Rattle.runs.specs.States.{State, opened, line_count}
 use Rattle.runs.specs.Calls.{Table}
 use Rattle.runs.specs.Runs.{Event, Turn, Ran}
@@ -10,14 +11,14 @@ use Rattle.cases.proofs.OneReading.{one_opening}
 use Rattle.cases.proofs.OpenedRules.{opened_sound, heading_apart, same_heading}
 use Rattle.case_lines.specs.Listings.{CellCounts, Ticks, Does, Lists, Lent, Listing, too_long, no_heading, listed}
 use Rattle.case_lines.specs.Listings as does
-use Rattle.case_lines.specs.Runs.{kinds, entered, in_truth, in_margin, marking, Prints, enters, no_truth, no_margin, no_marks, verdict, AllPrint, ended, refused, prints, ListingsRun, RunsList}
+use Rattle.case_lines.specs.Runs.{entered, in_truth, in_margin, marking, Prints, enters, no_truth, no_margin, no_marks, verdict, AllPrint, ended, refused, prints, ListingsRun, RunsList}
 use Rattle.case_lines.proofs.OneListing.{sized_one}
 
 module _ (cells : CellCounts) (rule : Table) where
   -- what field k does as calls
   record Calls (k : ℕ) (i : Item) (s z : State) (text : List ℕ) : Type 0 where
-    pub events : List (Event kinds)
-    pub ran : Ran kinds s events z
+    pub events : List (Event truth_and_margin)
+    pub ran : Ran truth_and_margin s events z
     pub printed : Prints cells rule k i events text
 
   called : (k : ℕ) (i : Item) (s z : State) (text : List ℕ) → Does cells rule.rows k i s z text → Calls k i s z text
@@ -29,9 +30,9 @@ module _ (cells : CellCounts) (rule : Table) where
 
   -- the fields from number n on as a run
   record Running (n : ℕ) (s : State) (bytes text : List ℕ) : Type 0 where
-    pub events : List (Event kinds)
+    pub events : List (Event truth_and_margin)
     pub end : State
-    pub ran : Ran kinds s events end
+    pub ran : Ran truth_and_margin s events end
     pub printed : AllPrint cells rule n bytes events text
 
   runs : (n : ℕ) (s : State) (bytes text : List ℕ) → Lists cells rule.rows n s bytes text → Running n s bytes text
@@ -40,36 +41,36 @@ module _ (cells : CellCounts) (rule : Table) where
   runs n s bytes text (does.does {after = z} {first = first} {more = more} x p d l w) =
       let c = called x.field x.item s z first d in
       let r = runs x.next z x.rest more l in
-      record { events = c.events ++ r.events; end = r.end; ran = ran_join kinds s z r.end c.events r.events c.ran r.ran; printed = prints x p c.printed r.printed refl w }
+      record { events = c.events ++ r.events; end = r.end; ran = ran_join truth_and_margin s z r.end c.events r.events c.ran r.ran; printed = prints x p c.printed r.printed refl w }
 
   -- and back: calls that lead from s to z do what the field does
-  done : (k : ℕ) (i : Item) (s z : State) (text : List ℕ) (es : List (Event kinds)) → Prints cells rule k i es text → Ran kinds s es z → Does cells rule.rows k i s z text
+  done : (k : ℕ) (i : Item) (s z : State) (text : List ℕ) (es : List (Event truth_and_margin)) → Prints cells rule k i es text → Ran truth_and_margin s es z → Does cells rule.rows k i s z text
   done k i s z text es (enters e r is made w) h =
-      let g = subst (λ (v : List (Event kinds)). Ran kinds s v z) made h in
-      does.enters e is (record { reply = r; turn = subst (λ (y : State). Turn kinds s (entered e r) y) (sym g.1.1) g.1.0; prints = w })
+      let g = subst (λ (v : List (Event truth_and_margin)). Ran truth_and_margin s v z) made h in
+      does.enters e is (record { reply = r; turn = subst (λ (y : State). Turn truth_and_margin s (entered e r) y) (sym g.1.1) g.1.0; prints = w })
   done k i s z text es (no_truth t n is made w) h =
-      let g = subst (λ (v : List (Event kinds)). Ran kinds s v z) made h in
+      let g = subst (λ (v : List (Event truth_and_margin)). Ran truth_and_margin s v z) made h in
       does.ticks t is (does.no_truth n g.1.0.0 w) (g.1.1 ∙ g.1.0.1)
   done k i s z text es (no_margin t n p is made w) h =
-      let g = subst (λ (v : List (Event kinds)). Ran kinds s v z) made h in
-      let f = subst (λ (y : State). Ran kinds y (in_margin cells rule t (Err n) ∷ []) z) g.1.0.1 g.1.1 in
+      let g = subst (λ (v : List (Event truth_and_margin)). Ran truth_and_margin s v z) made h in
+      let f = subst (λ (y : State). Ran truth_and_margin y (in_margin cells rule t (Err n) ∷ []) z) g.1.0.1 g.1.1 in
       does.ticks t is (does.no_margin p n g.1.0.0 f.1.0.0 w) (f.1.1 ∙ f.1.0.1)
   done k i s z text es (no_marks t n p q is made w) h =
-      let g = subst (λ (v : List (Event kinds)). Ran kinds s v z) made h in
-      let f = subst (λ (y : State). Ran kinds y (in_margin cells rule t (Ok q) ∷ (marking cells rule t (Err n) ∷ [])) z) g.1.0.1 g.1.1 in
-      let l = subst (λ (y : State). Ran kinds y (marking cells rule t (Err n) ∷ []) z) f.1.0.1 f.1.1 in
+      let g = subst (λ (v : List (Event truth_and_margin)). Ran truth_and_margin s v z) made h in
+      let f = subst (λ (y : State). Ran truth_and_margin y (in_margin cells rule t (Ok q) ∷ (marking cells rule t (Err n) ∷ [])) z) g.1.0.1 g.1.1 in
+      let l = subst (λ (y : State). Ran truth_and_margin y (marking cells rule t (Err n) ∷ []) z) f.1.0.1 f.1.1 in
       does.ticks t is (does.no_marks p q n g.1.0.0 f.1.0.0 l.1.0.0 w) (l.1.1 ∙ l.1.0.1)
   done k i s z text es (verdict t p q m is made w) h =
-      let g = subst (λ (v : List (Event kinds)). Ran kinds s v z) made h in
-      let f = subst (λ (y : State). Ran kinds y (in_margin cells rule t (Ok q) ∷ (marking cells rule t (Ok m) ∷ [])) z) g.1.0.1 g.1.1 in
-      let l = subst (λ (y : State). Ran kinds y (marking cells rule t (Ok m) ∷ []) z) f.1.0.1 f.1.1 in
+      let g = subst (λ (v : List (Event truth_and_margin)). Ran truth_and_margin s v z) made h in
+      let f = subst (λ (y : State). Ran truth_and_margin y (in_margin cells rule t (Ok q) ∷ (marking cells rule t (Ok m) ∷ [])) z) g.1.0.1 g.1.1 in
+      let l = subst (λ (y : State). Ran truth_and_margin y (marking cells rule t (Ok m) ∷ []) z) f.1.0.1 f.1.1 in
       does.ticks t is (does.verdict p q m g.1.0.0 f.1.0.0 l.1.0.0 w) (l.1.1 ∙ l.1.0.1)
 
-  lists : (n : ℕ) (s z : State) (bytes text : List ℕ) (es : List (Event kinds)) → AllPrint cells rule n bytes es text → Ran kinds s es z → Lists cells rule.rows n s bytes text
+  lists : (n : ℕ) (s z : State) (bytes text : List ℕ) (es : List (Event truth_and_margin)) → AllPrint cells rule n bytes es text → Ran truth_and_margin s es z → Lists cells rule.rows n s bytes text
   lists n s z bytes text es (ended p e w) h = does.ended p w
   lists n s z bytes text es (refused x p e w) h = does.refused x p w
   lists n s z bytes text es (prints {first = first} {more = more} {fs = fs} {gs = gs} x p d l e w) h =
-      let a = ran_split kinds s z fs gs (subst (λ (v : List (Event kinds)). Ran kinds s v z) e h) in
+      let a = ran_split truth_and_margin s z fs gs (subst (λ (v : List (Event truth_and_margin)). Ran truth_and_margin s v z) e h) in
       does.does x p (done x.field x.item s a.0 first fs d a.1.0) (lists x.next a.0 z x.rest more gs l a.1.1) w
 
 pub run : ListingsRun

@@ -4,7 +4,7 @@ use Rattle.grades.specs.Kinds.{Kind}
 use Rattle.grades.specs.Ranges.{Span}
 use Rattle.grades.specs.Margins.{margins}
 use Rattle.grades.specs.Truths.{truths}
-use Rattle.grades.specs.Worth.{worth}
+use Rattle.grades.specs.Worth.{worth, truth_value, margin_level}
 use Rattle.grades.specs.declared.margin.Margin.{Margin}
 use Rattle.grades.specs.declared.range.Range.{Range}
 use Rattle.grades.specs.declared.truth.Truth.{Truth}
@@ -20,7 +20,8 @@ use Rattle.runs.specs.Calls.{all, judge_asks, mark_asks}
 use Rattle.runs.specs.Conditions.{Condition, FirstFailing}
 use Rattle.runs.specs.Jobs.{JobTurn, enter}
 use Rattle.runs.specs.States.{State, readings_of, opened, line_count}
-use Rattle.runs.proofs.Unique.{one_failing, job_one}
+use Rattle.runs.proofs.Conditions.{one_failing}
+use Rattle.runs.proofs.Unique.{job_one}
 use Rattle.runs.proofs.WantedLists.{one_want_lists}
 use Rattle.judge.specs.declared.fault.JudgeFault.{JudgeFault}
 use Rattle.judge.specs.declared.fault.JudgeFault.TheVariants.{NoSuchLine, LateTick, RowCells}
@@ -28,16 +29,15 @@ use Rattle.judge.specs.declared.fault.MarkFault.{MarkFault}
 use Rattle.judge.specs.declared.fault.MarkFault.TheVariants.{Judging, WantCells, MarkCells}
 use Rattle.judge.specs.declared.marking.Marking.{Marking}
 use Rattle.judge.specs.Faults.{judge_number, mark_number}
+use Rattle.judge.specs.Cells.{BeginsWith, RunsOut, Complete, CutShort, WantsComplete, WantsCut, MarksComplete, MarksCut}
 use Rattle.judge.specs.Answers.{RefusedCells}
-use Rattle.judge.specs.Judges.{Complete, CutShort}
-use Rattle.judge.specs.Markings.{BeginsWith, RunsOut, WantsWritten, MarksWritten}
 use Rattle.judge.proofs.Pinned.{row_lists_one}
 use Rattle.cases.specs.declared.field.Entry.{Entry}
 use Rattle.cases.specs.Contents.{Item}
 use Rattle.cases.specs.Headings.{Opened}
 use Rattle.cases.specs.Steps.{Stepped}
 use Rattle.cases.proofs.OneReading.{one_opening, one_step}
-use Rattle.case_lines.specs.Leaves.{Contents, holds, level, Judges, MarksIn, TickLeaves, no_truth, no_margin, marked, FieldLeaves, enters, ticks, FieldsLeave, ended, refused, does, LinesLie, too_long, no_heading, carried, OneLeaving}
+use Rattle.case_lines.specs.Leaves.{Contents, Judges, MarksIn, TickLeaves, no_truth, no_margin, marked, FieldLeaves, enters, ticks, FieldsLeave, ended, refused, does, LinesLie, too_long, no_heading, carried, OneLeaving}
 use Rattle.case_lines.proofs.OneListing.{entry_tick, same_entry, same_tick, sized_one}
 
 ok_err : {A E : Type 0} (x : A) (e : E) → ◌≡◌ {A = Result A E} (Ok x) (Err e) → ⊥
@@ -113,16 +113,16 @@ begun xs before a b p q = joined (length xs) a b (p.written ∙ sym q.written) (
 run_out : {X : Type 0} (xs before a b : List X) → RunsOut xs before a → RunsOut xs before b → a ≡ b
 run_out xs before a b p q = p.beginning ∙ sym q.beginning
 
-truth_range_one : (u v : Range Truth) → worth truths holds u ≡ worth truths holds v → u ≡ v
+truth_range_one : (u v : Range Truth) → worth truths truth_value u ≡ worth truths truth_value v → u ≡ v
 truth_range_one u v e =
     let low : u.lower.holds ≡ v.lower.holds = ap (λ (p : Span truths.Value). p.low) e in
     let high : u.upper.holds ≡ v.upper.holds = ap (λ (p : Span truths.Value). p.high) e in
     λ i. record { lower = record { holds = low i }; upper = record { holds = high i } }
 
-margin_range_one : (u v : Range Margin) → worth margins level u ≡ worth margins level v → u ≡ v
+margin_range_one : (u v : Range Margin) → worth margins margin_level u ≡ worth margins margin_level v → u ≡ v
 margin_range_one u v e =
-    let low : level u.lower ≡ level v.lower = ap (λ (p : Span margins.Value). p.low) e in
-    let high : level u.upper ≡ level v.upper = ap (λ (p : Span margins.Value). p.high) e in
+    let low : margin_level u.lower ≡ margin_level v.lower = ap (λ (p : Span margins.Value). p.low) e in
+    let high : margin_level u.upper ≡ margin_level v.upper = ap (λ (p : Span margins.Value). p.high) e in
     λ i. record { lower = record { number = (low i).number; ok = (low i).ok }; upper = record { number = (high i).number; ok = (high i).ok } }
 
 judging_below : (f : JudgeFault) → judge_number f ≤ 9
@@ -137,45 +137,45 @@ told (Err f) = Some (mark_number f)
 module _ (rows : List Row) (s : State) (t : ℕ) where
   -- marking leaves one thing in the row cells, the want cells and the mark cells
   module _ (ranges a b : List (Piece (Range Truth))) (wants w v : List (Piece Bool)) (marks m n : List Mark) where
-    wants_done : (xs ys : List ℕ) → WantsWritten truths rows (readings_of s) t {E = ⊥} wants w (Ok xs) → WantsWritten truths rows (readings_of s) t {E = ⊥} wants v (Ok ys) → w ≡ v
-    wants_done xs ys h k =
+    wants_done : WantsComplete truths rows (readings_of s) t wants w → WantsComplete truths rows (readings_of s) t wants v → w ≡ v
+    wants_done h k =
         let same = one_want_lists truths rows (readings_of s) t k.0 h.0 k.1.0 h.1.0 in
         begun (all h.0) wants w v h.1.1 (subst (λ (wss : List (List (Piece Bool))). BeginsWith (all wss) wants v) same k.1.1)
 
-    wants_short : WantsWritten truths rows (readings_of s) t {E = Unit {0}} wants w (Err tt) → WantsWritten truths rows (readings_of s) t {E = Unit {0}} wants v (Err tt) → w ≡ v
+    wants_short : WantsCut truths rows (readings_of s) t wants w → WantsCut truths rows (readings_of s) t wants v → w ≡ v
     wants_short h k =
         let same = one_want_lists truths rows (readings_of s) t k.0 h.0 k.1.0 h.1.0 in
         run_out (all h.0) wants w v h.1.1 (subst (λ (wss : List (List (Piece Bool))). RunsOut (all wss) wants v) same k.1.1)
 
-    marks_done : (i j : ℕ) → MarksWritten truths rows (readings_of s) t {E = ⊥} marks m (Ok i) → MarksWritten truths rows (readings_of s) t {E = ⊥} marks n (Ok j) → m ≡ n
+    marks_done : (i j : ℕ) → MarksComplete truths rows (readings_of s) t marks m i → MarksComplete truths rows (readings_of s) t marks n j → m ≡ n
     marks_done i j h k =
         let same = lists_same {P = Marked truths rows (readings_of s) t} k.0 h.0 k.1.0 h.1.0 in
         begun h.0 marks m n h.1.2 (subst (λ (ms : List Mark). BeginsWith ms marks n) same k.1.2)
 
-    marks_short : MarksWritten truths rows (readings_of s) t {E = Unit {0}} marks m (Err tt) → MarksWritten truths rows (readings_of s) t {E = Unit {0}} marks n (Err tt) → m ≡ n
+    marks_short : MarksCut truths rows (readings_of s) t marks m → MarksCut truths rows (readings_of s) t marks n → m ≡ n
     marks_short h k =
         let same = lists_same {P = Marked truths rows (readings_of s) t} k.0 h.0 k.1.0 h.1.0 in
         run_out h.0 marks m n h.1.1 (subst (λ (ms : List Mark). RunsOut ms marks n) same k.1.1)
 
-    ranges_done : (pss qss : List (List (Piece (Span truths.Value)))) → Complete truths holds rows (readings_of s) ranges a pss → Complete truths holds rows (readings_of s) ranges b qss → a ≡ b
-    ranges_done pss qss h k = complete_one rows s t truths holds truth_range_one ranges a b (readings_of s) pss qss h k
+    ranges_done : (pss qss : List (List (Piece (Span truths.Value)))) → Complete truths truth_value rows (readings_of s) ranges a pss → Complete truths truth_value rows (readings_of s) ranges b qss → a ≡ b
+    ranges_done pss qss h k = complete_one rows s t truths truth_value truth_range_one ranges a b (readings_of s) pss qss h k
 
     by_told : (r q : Result (Marking Truth) MarkFault) → told r ≡ told q → MarksIn rows s t ranges a wants w marks m r → MarksIn rows s t ranges b wants v marks n q → (a ≡ b) × (w ≡ v) × (m ≡ n)
-    by_told (Ok x) (Ok y) e p q = let h = p.cells in let k = q.cells in (ranges_done h.0.0 k.0.0 h.0.1 k.0.1, wants_done h.1.0.0 k.1.0.0 h.1.0.1 k.1.0.1, marks_done x.marks y.marks h.1.1 k.1.1)
+    by_told (Ok x) (Ok y) e p q = let h = p.cells in let k = q.cells in (ranges_done h.0.0 k.0.0 h.0.1 k.0.1, wants_done h.1 k.1, marks_done x.marks y.marks h.2 k.2)
     by_told (Ok x) (Err g) e p q = absurd (none_some (mark_number g) e)
     by_told (Err f) (Ok y) e p q = absurd (none_some (mark_number f) (sym e))
     by_told (Err (Judging f)) (Err (Judging g)) e p q =
         let h = p.cells in
         let k = q.cells in
-        (refused_one rows s t truths holds truth_range_one ranges a b (readings_of s) f g (same_some (judge_number f) (judge_number g) e) h.0 k.0, h.1 ∙ sym k.1, h.2 ∙ sym k.2)
+        (refused_one rows s t truths truth_value truth_range_one ranges a b (readings_of s) f g (same_some (judge_number f) (judge_number g) e) h.0 k.0, h.1 ∙ sym k.1, h.2 ∙ sym k.2)
     by_told (Err (Judging f)) (Err WantCells) e p q = absurd (let d = same_some (judge_number f) 10 e in omega (arith, d, judging_below f))
     by_told (Err (Judging f)) (Err MarkCells) e p q = absurd (let d = same_some (judge_number f) 11 e in omega (arith, d, judging_below f))
     by_told (Err WantCells) (Err (Judging g)) e p q = absurd (let d = same_some 10 (judge_number g) e in omega (arith, d, judging_below g))
-    by_told (Err WantCells) (Err WantCells) e p q = let h = p.cells in let k = q.cells in (ranges_done h.0.0 k.0.0 h.0.1 k.0.1, wants_short h.1.0 k.1.0, h.1.1 ∙ sym k.1.1)
+    by_told (Err WantCells) (Err WantCells) e p q = let h = p.cells in let k = q.cells in (ranges_done h.0.0 k.0.0 h.0.1 k.0.1, wants_short h.1 k.1, h.2 ∙ sym k.2)
     by_told (Err WantCells) (Err MarkCells) e p q = absurd (let d = same_some 10 11 e in omega (arith, d))
     by_told (Err MarkCells) (Err (Judging g)) e p q = absurd (let d = same_some 11 (judge_number g) e in omega (arith, d, judging_below g))
     by_told (Err MarkCells) (Err WantCells) e p q = absurd (let d = same_some 11 10 e in omega (arith, d))
-    by_told (Err MarkCells) (Err MarkCells) e p q = let h = p.cells in let k = q.cells in (ranges_done h.0.0 k.0.0 h.0.1 k.0.1, wants_done h.1.0.0 k.1.0.0 h.1.0.1 k.1.0.1, marks_short h.1.1 k.1.1)
+    by_told (Err MarkCells) (Err MarkCells) e p q = let h = p.cells in let k = q.cells in (ranges_done h.0.0 k.0.0 h.0.1 k.0.1, wants_done h.1 k.1, marks_short h.2 k.2)
 
     marks_one : (r q : Result (Marking Truth) MarkFault) → MarksIn rows s t ranges a wants w marks m r → MarksIn rows s t ranges b wants v marks n q → (a ≡ b) × (w ≡ v) × (m ≡ n)
     marks_one r q h k = by_told r q (one_failing asked (told r) (told q) (failing a w m r h) (failing b v n q k)) h k
@@ -190,21 +190,21 @@ module _ (rows : List Row) (s : State) (t : ℕ) where
   -- a tick leaves one thing
   tick_one : (before a b : Contents) → TickLeaves rows s t before a → TickLeaves rows s t before b → a ≡ b
   tick_one before a b (no_truth f j e) (no_truth g l d) =
-      let x = unjudged_one rows s t truths holds truth_range_one before.truths a.truths b.truths f g j l in
+      let x = unjudged_one rows s t truths truth_value truth_range_one before.truths a.truths b.truths f g j l in
       e ∙ ap (λ (v : List (Piece (Range Truth))). record before { truths = v }) x ∙ sym d
-  tick_one before a b (no_truth f j e) (no_margin p g l o d) = absurd (judged_apart rows s t truths holds truth_range_one before.truths b.truths a.truths p f l j)
-  tick_one before a b (no_truth f j e) (marked p q y r l o i) = absurd (judged_apart rows s t truths holds truth_range_one before.truths y a.truths p f l j)
-  tick_one before a b (no_margin p f j k e) (no_truth g l d) = absurd (judged_apart rows s t truths holds truth_range_one before.truths a.truths b.truths p g j l)
+  tick_one before a b (no_truth f j e) (no_margin p g l o d) = absurd (judged_apart rows s t truths truth_value truth_range_one before.truths b.truths a.truths p f l j)
+  tick_one before a b (no_truth f j e) (marked p q y r l o i) = absurd (judged_apart rows s t truths truth_value truth_range_one before.truths y a.truths p f l j)
+  tick_one before a b (no_margin p f j k e) (no_truth g l d) = absurd (judged_apart rows s t truths truth_value truth_range_one before.truths a.truths b.truths p g j l)
   tick_one before a b (no_margin p f j k e) (no_margin u g l o d) =
-      let x = judged_one rows s t truths holds truth_range_one before.truths a.truths b.truths p u j l in
-      let y = unjudged_one rows s t margins level margin_range_one before.margins a.margins b.margins f g k o in
+      let x = judged_one rows s t truths truth_value truth_range_one before.truths a.truths b.truths p u j l in
+      let y = unjudged_one rows s t margins margin_level margin_range_one before.margins a.margins b.margins f g k o in
       e ∙ (λ i. record before { truths = x i; margins = y i }) ∙ sym d
-  tick_one before a b (no_margin p f j k e) (marked u q y r l o i) = absurd (judged_apart rows s t margins level margin_range_one before.margins b.margins a.margins q f o k)
-  tick_one before a b (marked p q x r j k i) (no_truth g l d) = absurd (judged_apart rows s t truths holds truth_range_one before.truths x b.truths p g j l)
-  tick_one before a b (marked p q x r j k i) (no_margin u g l o d) = absurd (judged_apart rows s t margins level margin_range_one before.margins a.margins b.margins q g k o)
+  tick_one before a b (no_margin p f j k e) (marked u q y r l o i) = absurd (judged_apart rows s t margins margin_level margin_range_one before.margins b.margins a.margins q f o k)
+  tick_one before a b (marked p q x r j k i) (no_truth g l d) = absurd (judged_apart rows s t truths truth_value truth_range_one before.truths x b.truths p g j l)
+  tick_one before a b (marked p q x r j k i) (no_margin u g l o d) = absurd (judged_apart rows s t margins margin_level margin_range_one before.margins a.margins b.margins q g k o)
   tick_one before a b (marked p q x r j k h) (marked u v y z l o g) =
-      let same = judged_one rows s t truths holds truth_range_one before.truths y x u p l j in
-      let gaps = judged_one rows s t margins level margin_range_one before.margins a.margins b.margins q v k o in
+      let same = judged_one rows s t truths truth_value truth_range_one before.truths y x u p l j in
+      let gaps = judged_one rows s t margins margin_level margin_range_one before.margins a.margins b.margins q v k o in
       let one = marks_one x a.truths b.truths before.wants a.wants b.wants before.marks a.marks b.marks r z h
       (subst (λ (c : List (Piece (Range Truth))). MarksIn rows s t c b.truths before.wants b.wants before.marks b.marks z) same g) in
       λ i. record { truths = one.0 i; margins = gaps i; wants = one.1 i; marks = one.2 i }

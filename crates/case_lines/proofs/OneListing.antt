@@ -6,12 +6,13 @@ use Rattle.grades.specs.Truths.{truths}
 use Rattle.grades.specs.Margins.{margins}
 use Rattle.rules.specs.declared.row.Row.{Row}
 use Rattle.meaning.specs.Marks.{Marked}
-use Rattle.meaning.specs.Outcomes.{outcome_of_lem}
+use Rattle.meaning.specs.Outcomes.{outcome_at}
 use Rattle.meaning.proofs.Pinned.{lists_same}
 use Rattle.runs.specs.States.{State, opened, line_count, readings_of}
 use Rattle.runs.specs.Jobs.{enter}
 use Rattle.runs.specs.Calls.{judge_asks, mark_asks, JudgeTurn, Marking, MarkTurn}
-use Rattle.runs.proofs.Unique.{one_failing, job_one}
+use Rattle.runs.proofs.Conditions.{one_failing}
+use Rattle.runs.proofs.Unique.{job_one}
 use Rattle.cases.specs.declared.fault.CaseRefusal.{CaseRefusal}
 use Rattle.cases.specs.declared.field.Entry.{Entry}
 use Rattle.cases.specs.Contents.{Item, entry, tick}
@@ -54,8 +55,8 @@ mark_one K s rows t c w m (Ok p) (Err n) h k = absurd (some_none n (one_failing 
 mark_one K s rows t c w m (Err n) (Ok q) h k = absurd (some_none n (one_failing (judge_asks K s rows t c (mark_asks K s rows t w m)) None (Some n) k.0 h))
 mark_one K s rows t c w m (Err i) (Err j) h k = ap (λ (v : ℕ). Err v) (same_some i j (one_failing (judge_asks K s rows t c (mark_asks K s rows t w m)) (Some i) (Some j) h k))
 
-told : (t : ℕ) {p o : Span truths.Value} {q z : Span margins.Value} {x y : Marking truths} → p ≡ o → q ≡ z → x ≡ y → verdict_line t (outcome_of_lem p) q.low.number q.high.number (length x.marks) ++ mark_lines x.marks ≡ verdict_line t (outcome_of_lem o) z.low.number z.high.number (length y.marks) ++ mark_lines y.marks
-told t e f g = λ i. verdict_line t (outcome_of_lem (e i)) (f i).low.number (f i).high.number (length (g i).marks) ++ mark_lines (g i).marks
+told : (t : ℕ) {p o : Span truths.Value} {q z : Span margins.Value} {x y : Marking truths} → p ≡ o → q ≡ z → x ≡ y → verdict_line t (outcome_at p) q.low.number q.high.number (length x.marks) ++ mark_lines x.marks ≡ verdict_line t (outcome_at o) z.low.number z.high.number (length y.marks) ++ mark_lines y.marks
+told t e f g = λ i. verdict_line t (outcome_at (e i)) (f i).low.number (f i).high.number (length (g i).marks) ++ mark_lines (g i).marks
 
 pub entry_tick : (e : Entry) (t : ℕ) → entry e ≡ tick t → ⊥
 entry_tick e t h = let z : ◌≡◌ {A = ℕ} 0 1 = cc in omega arith

@@ -5,10 +5,14 @@ use Rattle.grades.specs.Ranges.{Span}
 use Rattle.grades.specs.Truths.{truths}
 use Rattle.grades.specs.Margins.{margins}
 use Rattle.grades.specs.Lawful.{truths_lawful, margins_lawful}
+use Rattle.runs.specs.Families.{truth_and_margin}
 use Rattle.runs.specs.States.{State, opened, line_count}
 use Rattle.runs.specs.Calls.{Table, JudgeTurn, Marking, MarkTurn}
-use Rattle.runs.proofs.Exists.{EndsAt, enter_goes, judge_goes, mark_goes}
-use Rattle.runs.proofs.Turns.{opened_reads}
+use Rattle.runs.specs.Jobs.{enter}
+use Rattle.runs.specs.Runs.{on_job, event}
+use Rattle.runs.proofs.Settings.{EndsAt}
+use Rattle.runs.proofs.Exists.{enter_goes, judge_goes, mark_goes}
+use Rattle.runs.proofs.Turns.{turn_ends, opened_reads}
 use Rattle.cases.specs.declared.fault.CaseRefusal.{CaseRefusal}
 use Rattle.cases.specs.declared.fault.CaseFault.TheVariants.{TooLong}
 use Rattle.cases.specs.Contents.{Item, name, rule, entry, tick}
@@ -18,7 +22,6 @@ use Rattle.cases.proofs.OpenedRules.{opened_sound}
 use Rattle.cases.proofs.SomeStep.{Found, ends, refuses, goes, found}
 use Rattle.case_lines.specs.Lines.{refused_line, refusal_line, entry_text}
 use Rattle.case_lines.specs.Listings.{CellCounts, Ticks, no_truth, no_margin, no_marks, verdict, Does, enters, ticks, Lists, ended, refused, does, Lent, Listing, too_long, no_heading, listed}
-use Rattle.case_lines.specs.Runs.{kinds}
 use Rattle.case_lines.specs.Laws.{SomeListing}
 
 -- nothing is known past the last tick that an entry may name
@@ -53,7 +56,12 @@ module _ (cells : CellCounts) (table : Table) where
   done k (rule w) s late f = absurd f
   done k (entry e) s late f =
       let g = enter_goes 1000000001 (omega arith) s late e.line e.from e.to e.lower e.upper in
-      record { after = g.1.0; text = entry_text k g.0; done = enters e refl (record { reply = g.0; turn = g.1.1.0; prints = refl }); late = g.1.1.1 }
+      record {
+        after = g.1.0;
+        text = entry_text k g.0;
+        done = enters e refl (record { reply = g.0; turn = g.1.1; prints = refl });
+        late = turn_ends truth_and_margin 1000000001 (omega arith) s g.1.0 (event (on_job (enter e.line e.from e.to e.lower e.upper)) g.0) g.1.1 late;
+      }
   done k (tick t) s late f =
       let g = told k t s late (judge_goes truths_lawful 1000000001 s late table t cells.truth_rows) in
       record { after = s; text = g.0; done = ticks t refl g.1 refl; late = late }
@@ -72,7 +80,7 @@ module _ (lent : Lent) (case : List ℕ) where
   opens le (Err e) h = (refusal_line e, no_heading e le h refl)
   opens le (Ok o) h =
       let lines : ℕ = line_count o.lines lent.pieces in
-      let l = lists lent.cells (record { rows = o.rows; sound = opened_sound o h }) (length o.rest) o.next (opened lines) o.rest (omega arith) (λ line t far. opened_reads kinds lines (opened lines) [] refl line t) (found o.next o.rest) in
+      let l = lists lent.cells (record { rows = o.rows; sound = opened_sound o h }) (length o.rest) o.next (opened lines) o.rest (omega arith) (λ line t far. opened_reads truth_and_margin lines (opened lines) [] refl line t) (found o.next o.rest) in
       (l.0, listed o le h l.1)
 
   long : 16384 < length case → (text : List ℕ) × Listing lent case text

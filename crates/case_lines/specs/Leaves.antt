@@ -4,8 +4,9 @@ use Rattle.grades.specs.declared.margin.Margin.{Margin}
 use Rattle.grades.specs.declared.range.Range.{Range}
 use Rattle.grades.specs.declared.truth.Truth.{Truth}
 use Rattle.grades.specs.Kinds.{Kind}
-use Rattle.grades.specs.Margins.{Level, margins}
+use Rattle.grades.specs.Margins.{margins}
 use Rattle.grades.specs.Truths.{truths}
+use Rattle.grades.specs.Worth.{truth_value, margin_level}
 use Rattle.pieces.specs.declared.piece.Piece.{Piece}
 use Rattle.rules.specs.declared.row.Row.{Row}
 use Rattle.meaning.specs.declared.mark.Mark.{Mark}
@@ -43,13 +44,6 @@ abbrev pub SameLoans : Cells → Cells → Type 0
 SameLoans before after =
     (after.truths.ghost_name ≡ before.truths.ghost_name) × (after.margins.ghost_name ≡ before.margins.ghost_name) × (after.wants.ghost_name ≡ before.wants.ghost_name) × (after.marks.ghost_name ≡ before.marks.ghost_name)
 
--- what a truth and a margin stand for
-abbrev pub holds : Truth → Bool
-holds t = t.holds
-
-abbrev pub level : Margin → Level
-level m = record { number = m.number; ok = m.ok }
-
 module _ (rows : List Row) where
   module _ (s : State) (t : ℕ) where
     -- the rule is judged in one grade at a tick: the answer, and the row cells before and after
@@ -59,14 +53,14 @@ module _ (rows : List Row) where
 
     -- the rule is marked in truth at a tick: the row cells, the want cells and the mark cells before and after
     pub record MarksIn (ranges ranges' : List (Piece (Range Truth))) (wants wants' : List (Piece Bool)) (marks marks' : List Mark) (r : Result (Marking Truth) MarkFault) : Type 0 where
-      pub turn : MarkTurn truths s rows t (length ranges) (length wants) (length marks) (mark_reply truths holds marks' r)
-      pub cells : MarkedCells truths holds rows (readings_of s) t ranges ranges' wants wants' marks marks' r
+      pub turn : MarkTurn truths s rows t (length ranges) (length wants) (length marks) (mark_reply truths truth_value marks' r)
+      pub cells : MarkedCells truths truth_value rows (readings_of s) t ranges ranges' wants wants' marks marks' r
 
     -- a tick: judged in truth, judged in margin and marked in truth, up to the first refusal; what comes behind that is not touched
     pub data TickLeaves (before after : Contents) : Type 0 where
-      no_truth : (f : JudgeFault) → Judges truths holds before.truths after.truths (Err f) → after ≡ record before { truths = after.truths } → TickLeaves before after
-      no_margin : (p : Range Truth) (f : JudgeFault) → Judges truths holds before.truths after.truths (Ok p) → Judges margins level before.margins after.margins (Err f) → after ≡ record before { truths = after.truths; margins = after.margins } → TickLeaves before after
-      marked : (p : Range Truth) (q : Range Margin) (judged : List (Piece (Range Truth))) (r : Result (Marking Truth) MarkFault) → Judges truths holds before.truths judged (Ok p) → Judges margins level before.margins after.margins (Ok q) → MarksIn judged after.truths before.wants after.wants before.marks after.marks r → TickLeaves before after
+      no_truth : (f : JudgeFault) → Judges truths truth_value before.truths after.truths (Err f) → after ≡ record before { truths = after.truths } → TickLeaves before after
+      no_margin : (p : Range Truth) (f : JudgeFault) → Judges truths truth_value before.truths after.truths (Ok p) → Judges margins margin_level before.margins after.margins (Err f) → after ≡ record before { truths = after.truths; margins = after.margins } → TickLeaves before after
+      marked : (p : Range Truth) (q : Range Margin) (judged : List (Piece (Range Truth))) (r : Result (Marking Truth) MarkFault) → Judges truths truth_value before.truths judged (Ok p) → Judges margins margin_level before.margins after.margins (Ok q) → MarksIn judged after.truths before.wants after.wants before.marks after.marks r → TickLeaves before after
 
   -- a field: an entry touches none of these cells, and a tick leaves the job as it is
   pub data FieldLeaves (i : Item) (s z : State) (before after : Contents) : Type 0 where

@@ -4,7 +4,7 @@ use Rattle.grades.specs.Ranges.{Span}
 use Rattle.grades.specs.Truths.{truths}
 use Rattle.grades.specs.Margins.{margins}
 use Rattle.rules.specs.declared.row.Row.{Row}
-use Rattle.meaning.specs.Outcomes.{outcome_of_lem}
+use Rattle.meaning.specs.Outcomes.{outcome_at}
 use Rattle.runs.specs.States.{State, opened, line_count}
 use Rattle.runs.specs.Calls.{JudgeTurn, Marking, MarkTurn}
 use Rattle.cases.specs.declared.fault.CaseRefusal.{CaseRefusal}
@@ -32,7 +32,7 @@ module _ (cells : CellCounts) (rows : List Row) where
     no_truth : (n : ℕ) → JudgeTurn truths s rows t cells.truth_rows (Err n) → text ≡ refused_line n k → Ticks k t s text
     no_margin : (p : Span truths.Value) (n : ℕ) → JudgeTurn truths s rows t cells.truth_rows (Ok p) → JudgeTurn margins s rows t cells.margin_rows (Err n) → text ≡ refused_line n k → Ticks k t s text
     no_marks : (p : Span truths.Value) (q : Span margins.Value) (n : ℕ) → JudgeTurn truths s rows t cells.truth_rows (Ok p) → JudgeTurn margins s rows t cells.margin_rows (Ok q) → MarkTurn truths s rows t cells.truth_rows cells.wants cells.marks (Err n) → text ≡ refused_line n k → Ticks k t s text
-    verdict : (p : Span truths.Value) (q : Span margins.Value) (m : Marking truths) → JudgeTurn truths s rows t cells.truth_rows (Ok p) → JudgeTurn margins s rows t cells.margin_rows (Ok q) → MarkTurn truths s rows t cells.truth_rows cells.wants cells.marks (Ok m) → text ≡ verdict_line t (outcome_of_lem p) q.low.number q.high.number (length m.marks) ++ mark_lines m.marks → Ticks k t s text
+    verdict : (p : Span truths.Value) (q : Span margins.Value) (m : Marking truths) → JudgeTurn truths s rows t cells.truth_rows (Ok p) → JudgeTurn margins s rows t cells.margin_rows (Ok q) → MarkTurn truths s rows t cells.truth_rows cells.wants cells.marks (Ok m) → text ≡ verdict_line t (outcome_at p) q.low.number q.high.number (length m.marks) ++ mark_lines m.marks → Ticks k t s text
 
   -- what field k does and prints: an entry is entered, and a tick leaves the job as it is
   pub data Does (k : ℕ) (i : Item) (s after : State) (text : List ℕ) : Type 0 where

@@ -1,7 +1,8 @@
 // What holds of every case, on the contracts of functions.
+ghost use Rattle.runs.specs.Families.{truth_and_margin};
 ghost use Rattle.runs.specs.Law.{LawOfRuns};
 ghost use Rattle.case_lines.specs.Laws.{OneListing, SomeListing};
-ghost use Rattle.case_lines.specs.Runs.{kinds, ListingsRun, RunsList};
+ghost use Rattle.case_lines.specs.Runs.{ListingsRun, RunsList};
 
 use grades::margin::Margin;
 use grades::truth::Truth;
@@ -19,7 +20,7 @@ pub fn listings_are_one()
 pub fn listings_are_runs()
     ensures run { ListingsRun }
     ensures back { RunsList }
-    ensures law { LawOfRuns kinds }
+    ensures law { LawOfRuns truth_and_margin }
 {
     runs_keep_the_law::<Both<Truth, Margin>>();
 }

@@ -3,8 +3,8 @@ ghost use Rattle.std.specs.Prelude.{◌≡◌, ℕ, ◌++◌, ◌≤◌, length,
 ghost use Rattle.rules.specs.Texts.{table_of};
 ghost use Rattle.jobs.specs.Jobs.{state_of};
 ghost use Rattle.grades.specs.Truths.{truths as truth_kind};
-ghost use Rattle.grades.specs.Worth.{worth};
-ghost use Rattle.meaning.specs.Outcomes.{outcome_of_lem};
+ghost use Rattle.grades.specs.Worth.{worth, truth_value};
+ghost use Rattle.meaning.specs.Outcomes.{outcome_at};
 ghost use Rattle.case_lines.specs.Lines.{verdict_line, mark_lines};
 ghost use Rattle.case_lines.specs.Writes.{Adds, AddsSome};
 ghost use Rattle.case_lines.specs.Calls.{told_text};
@@ -13,7 +13,7 @@ ghost use Rattle.case_lines.specs.Leaves.{TickLeaves, contents, SameLoans};
 
 use crate::cells::Cells;
 use crate::lines::OutcomeText;
-use crate::writing::{outcome_of, write_marks, write_refused};
+use crate::writing::{write_marks, write_refused};
 use grades::margin::Margin;
 use grades::range::Range;
 use grades::truth::Truth;
@@ -21,6 +21,7 @@ use jobs::job::Job;
 use judge::fault::MarkFault;
 use judge::judging::judge;
 use judge::marking::mark;
+use meaning::outcome::Outcome;
 use rules::rule::Rule;
 use std::alloc::AllocError;
 
@@ -56,9 +57,9 @@ impl Cells<'_> {
 // The verdict's line, and a line for each of the marks, which lie in the mark cells.
 fn write_told(text: &mut String, tick: u32, told: Told, cells: &Cells<'_>) -> Result<(), AllocError>
     requires { told.marks ≤ length cells.now.marks.now }
-    ensures { Adds (string_bytes text.old) result (verdict_line tick (outcome_of_lem (worth truth_kind (λ t. t.holds) told.verdict)) told.margin.lower.number told.margin.upper.number told.marks ++ mark_lines (take told.marks cells.now.marks.now)) (string_bytes text.new) }
+    ensures { Adds (string_bytes text.old) result (verdict_line tick (outcome_at (worth truth_kind truth_value told.verdict)) told.margin.lower.number told.margin.upper.number told.marks ++ mark_lines (take told.marks cells.now.marks.now)) (string_bytes text.new) }
 {
-    let outcome = OutcomeText(outcome_of(told.verdict));
+    let outcome = OutcomeText(Outcome::of(told.verdict));
     let lower = told.margin.lower.number();
     let upper = told.margin.upper.number();
     let count = told.marks;

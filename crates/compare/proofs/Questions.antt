@@ -3,7 +3,7 @@ use Rattle.std.proofs.Common.{◌≡◌, ℕ, ◌<◌, ◌≤◌, List, length, 
 use Rattle.std.specs.List.{HoldsAt}
 use Rattle.rules.specs.declared.row.Row.{Row}
 use Rattle.rules.specs.declared.row.Row.TheVariants.{Not}
-use Rattle.meaning.specs.Marks.{Tests}
+use Rattle.rules.specs.Tested.{Tests}
 use Rattle.runs.specs.States.{State}
 use Rattle.runs.specs.Calls.{HasLines}
 

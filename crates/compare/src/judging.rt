@@ -2,7 +2,7 @@
 ghost use Rattle.std.specs.Prelude.{◌≡◌, ℕ, ◌≤◌, length, Err, IfOk};
 ghost use Rattle.grades.specs.Kinds.{Tells};
 ghost use Rattle.rules.specs.Texts.{table_of};
-ghost use Rattle.meaning.specs.Marks.{Tests};
+ghost use Rattle.rules.specs.Tested.{Tests};
 ghost use Rattle.jobs.specs.Jobs.{state_of};
 ghost use Rattle.compare.specs.Questions.{Barred};
 ghost use Rattle.compare.specs.Found.{Judges, Needs, Verdict};

@@ -20,7 +20,8 @@ use Rattle.meaning.proofs.Related.{Keeps, step_related}
 use Rattle.runs.specs.Calls.{all}
 use Rattle.judge.specs.Signals.{heard}
 use Rattle.judge.specs.Places.{list_at, told, Stands, Ready}
-use Rattle.judge.specs.Judges.{BeginAt, Complete, CutShort}
+use Rattle.judge.specs.Cells.{Complete, CutShort}
+use Rattle.judge.specs.Judges.{BeginAt}
 use Rattle.judge.specs.Markings.{RangesStand}
 use Rattle.judge.proofs.Stacks.{below_lies, below_heard}
 use Rattle.judge.proofs.Standing.{row_stands, row_told}

@@ -20,7 +20,8 @@ use Rattle.runs.specs.Calls.{all}
 use Rattle.judge.specs.Places.{list_at, Stands}
 use Rattle.judge.specs.Children.{is_test, said, asks_at}
 use Rattle.judge.specs.Marks.{MarkedRows}
-use Rattle.judge.specs.Markings.{BeginsWith, RunsOut, RangesStand, WantsStand, MarksWritten}
+use Rattle.judge.specs.Cells.{BeginsWith, RunsOut}
+use Rattle.judge.specs.Markings.{RangesStand, WantsStand, MarksWritten}
 use Rattle.judge.proofs.WantFilling.{plain}
 use Rattle.judge.proofs.Stacks.{Stacked, lies, heard_at}
 use Rattle.judge.proofs.RowStretches.{marks_whole, marks_begun}

@@ -10,13 +10,15 @@ use Rattle.meaning.specs.Marks.{Marked, Marks}
 use Rattle.meaning.proofs.Pinned.{lists_same}
 use Rattle.runs.specs.States.{State, readings_of}
 use Rattle.runs.specs.Calls.{all, WantLists, mark_asks, MarkTurn}
+use Rattle.runs.proofs.Conditions.{none_fails}
 use Rattle.runs.proofs.WantedLists.{one_want_lists}
 use Rattle.judge.specs.declared.fault.JudgeFault.{JudgeFault}
 use Rattle.judge.specs.declared.fault.MarkFault.{MarkFault}
 use Rattle.judge.specs.declared.fault.MarkFault.TheVariants.{Judging, WantCells, MarkCells}
 use Rattle.judge.specs.declared.judgement.Judgement.{Judgement}
-use Rattle.judge.specs.Markings.{RangesStand}
-use Rattle.judge.specs.Answers.{JudgedTable, MarkedTable, mark_reply, MarkedCells}
+use Rattle.judge.specs.Judges.{JudgedTable}
+use Rattle.judge.specs.Markings.{RangesStand, MarkedTable}
+use Rattle.judge.specs.Answers.{mark_reply, MarkedCells}
 use Rattle.judge.proofs.JudgedTables.{refused_first, judged_first}
 
 module _ {K : Kind} (L : Lawful K) {G : Type 0} (val : G → K.Value) (s : State) (rows : List Row) (sound : Sound rows) (tick : ℕ) (cells cells' : List (Piece (Range G))) (wants wants' : List (Piece Bool)) (marks marks' : List Mark) where
@@ -39,23 +41,23 @@ module _ {K : Kind} (L : Lawful K) {G : Type 0} (val : G → K.Value) (s : State
         judged_first K val s rows tick cells cells' (mark_asks K s rows tick (length wants) (length marks)) j h (Some 10)
         (inl (λ fits. omega (arith, fits m.0.0 m.0.1.0, m.0.1.1.longer), refl))
     short_turn MarkCells m =
-        let w = m.0.1 in
+        let w = m.0 in
         judged_first K val s rows tick cells cells' (mark_asks K s rows tick (length wants) (length marks)) j h (Some 11)
         (inr (wants_fit w.0 w.1.0 w.1.1.fits, inl (λ fits. omega (arith, fits m.1.0 m.1.1.0, m.1.1.1.longer), refl)))
 
     pub short_cells : (f : MarkFault) → MarkedTable K rows (readings_of s) tick wants wants' marks marks' (Err f) → MarkedCells K val rows (readings_of s) tick cells cells' wants wants' marks marks' (Err f)
     short_cells (Judging f) m = absurd m
-    short_cells WantCells m = ((h.2.0, h.2.1.0), m)
-    short_cells MarkCells m = ((h.2.0, h.2.1.0), m)
+    short_cells WantCells m = ((h.2.0, h.2.1.0), m.0, m.1)
+    short_cells MarkCells m = ((h.2.0, h.2.1.0), m.0, m.1)
 
     -- all is written
     pub marked_turn : (n : ℕ) → MarkedTable K rows (readings_of s) tick wants wants' marks marks' (Ok n) → MarkTurn K s rows tick (length cells) (length wants) (length marks) (mark_reply K val marks' (Ok (record { verdict = j.verdict; marks = n })))
     marked_turn n m =
-        let w = m.0.1 in
+        let w = m.0 in
         let z = m.1.1 in
         let listed : take n marks' ≡ m.1.0 = ap (λ k. take k marks') z.1 ∙ z.2.written in (
           judged_first K val s rows tick cells cells' (mark_asks K s rows tick (length wants) (length marks)) j h None
-              (inr (wants_fit w.0 w.1.0 w.1.1.fits, inr (marks_fit m.1.0 z.0 z.2.fits, refl))),
+              (none_fails (mark_asks K s rows tick (length wants) (length marks)) (wants_fit w.0 w.1.0 w.1.1.fits, (marks_fit m.1.0 z.0 z.2.fits, tt))),
           h.2.1.2,
           subst (λ ns. Marks K rows (readings_of s) tick ns) (sym listed) z.0,
         )

@@ -11,7 +11,7 @@ use Rattle.meaning.specs.Readings.{Readings}
 use Rattle.meaning.specs.Values.{value}
 use Rattle.meaning.specs.Verdicts.{ranges}
 use Rattle.runs.specs.Calls.{all, RowLists}
-use Rattle.judge.specs.Judges.{Complete, CutShort}
+use Rattle.judge.specs.Cells.{Complete, CutShort}
 
 module _ (K : Kind) (rows : List Row) (x : Readings) where
   abbrev ListsOfRows : Type 0

@@ -13,7 +13,8 @@ use Rattle.meaning.specs.Readings.{Readings}
 use Rattle.meaning.specs.Values.{value}
 use Rattle.meaning.specs.Verdicts.{ranges}
 use Rattle.meaning.specs.Wants.{Wanted}
-use Rattle.meaning.specs.Marks.{Tests, Lists, Marked, Marks}
+use Rattle.rules.specs.Tested.{Tests}
+use Rattle.meaning.specs.Marks.{Lists, Marked, Marks}
 use Rattle.meaning.proofs.Wanting.{wanted_below}
 use Rattle.meaning.proofs.Stretches.{Next as ChainNext, Chain, has_chain}
 use Rattle.meaning.proofs.Lists.{Upto as RowsBelow, lists_as, lists_none, lists_more}

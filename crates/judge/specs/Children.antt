@@ -1,5 +1,5 @@
 -- Where a row's child is wanted, as yes or no, from where the row is wanted and not settled.
-use Rattle.std.specs.Prelude.{ℕ, ◌+◌, ◌<◌, Bool, true, false, cond, ◌||◌, List, ◌==◌}
+use Rattle.std.specs.Prelude.{ℕ, ◌+◌, ◌<◌, Bool, true, false, cond, List, ◌==◌}
 use Rattle.std.specs.Coded.{le_prop}
 use Rattle.grades.specs.Kinds.{Kind}
 use Rattle.grades.specs.declared.range.Range.{Range}
@@ -40,16 +40,6 @@ far (Or l r) = 0
 far (Eventually a b d) = b
 far (Always a b d) = b
 far (Until a b l r) = b
-
--- the row c is a child of the row
-abbrev pub is_child : Row → ℕ → Bool
-is_child (Test l s m) c = false
-is_child (Not d) c = c == d
-is_child (And l r) c = c == l || c == r
-is_child (Or l r) c = c == l || c == r
-is_child (Eventually a b d) c = c == d
-is_child (Always a b d) c = c == d
-is_child (Until a b l r) c = c == l || c == r
 
 -- the row is a test
 abbrev pub is_test : Row → Bool

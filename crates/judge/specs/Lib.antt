@@ -5,6 +5,7 @@ pub mod Trials
 pub mod Children
 pub mod Signals
 pub mod Places
+pub mod Cells
 pub mod Judges
 pub mod Markings
 pub mod Judged

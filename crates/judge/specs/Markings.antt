@@ -1,5 +1,5 @@
 -- What stands in the cells before and after the want lists and the marks are written.
-use Rattle.std.specs.Prelude.{◌≡◌, ℕ, ◌+◌, ◌-◌, ◌<◌, ◌≤◌, Bool, List, length, take, drop, Ok, Err, Result, ◌==◌}
+use Rattle.std.specs.Prelude.{◌≡◌, ℕ, ◌+◌, ◌-◌, ◌<◌, ◌≤◌, Bool, List, length, take, Ok, Err, Result, ◌==◌}
 use Rattle.grades.specs.Kinds.{Kind}
 use Rattle.grades.specs.Ranges.{Span}
 use Rattle.grades.specs.Worth.{worth}
@@ -10,22 +10,13 @@ use Rattle.rules.specs.declared.row.Row.{Row}
 use Rattle.rules.specs.Rows.{root, reach, Sound}
 use Rattle.meaning.specs.declared.mark.Mark.{Mark}
 use Rattle.meaning.specs.Readings.{Readings}
-use Rattle.meaning.specs.Marks.{Marks}
 use Rattle.runs.specs.Calls.{all, RowLists, TellsWanted, WantLists}
 use Rattle.judge.specs.Places.{list_at, Stands}
 use Rattle.judge.specs.Children.{said}
+use Rattle.judge.specs.declared.fault.MarkFault.{MarkFault}
+use Rattle.judge.specs.declared.fault.MarkFault.TheVariants.{Judging, WantCells, MarkCells}
+use Rattle.judge.specs.Cells.{BeginsWith, WantsComplete, WantsCut, MarksComplete, MarksCut}
 use Rattle.judge.specs.Judges.{BeginAt}
-
--- the cells begin with xs, and behind them are as they were
-pub record BeginsWith {X : Type 0} (xs before after : List X) : Type 0 where
-  pub fits : length xs ≤ length before
-  pub written : take (length xs) after ≡ xs
-  pub behind : drop (length xs) after ≡ drop (length xs) before
-
--- xs needs more cells than there are: all are full of its beginning
-pub record RunsOut {X : Type 0} (xs before after : List X) : Type 0 where
-  pub longer : length before < length xs
-  pub beginning : after ≡ take (length before) xs
 
 -- yes at the tick alone
 abbrev pub only_at : ℕ → ℕ → Bool
@@ -67,9 +58,16 @@ module _ (K : Kind) (rows : List Row) (x : Readings) where
     -- a writing of all want lists: done, it tells where each begins
     abbrev pub WantsWritten : {E : Type 0} → List (Piece Bool) → List (Piece Bool) → Result (List ℕ) E → Type 0
     WantsWritten before after (Ok starts) = (wss : List (List (Piece Bool))) × (WantLists K rows x tick wss × BeginsWith (all wss) before after × BeginAt starts wss)
-    WantsWritten before after (Err e) = (wss : List (List (Piece Bool))) × (WantLists K rows x tick wss × RunsOut (all wss) before after)
+    WantsWritten before after (Err e) = WantsCut K rows x tick before after
 
     -- a writing of all marks: done, it tells how many there are
     abbrev pub MarksWritten : {E : Type 0} → List Mark → List Mark → Result ℕ E → Type 0
-    MarksWritten before after (Ok n) = (ms : List Mark) × (Marks K rows x tick ms × (n ≡ length ms) × BeginsWith ms before after)
-    MarksWritten before after (Err e) = (ms : List Mark) × (Marks K rows x tick ms × RunsOut ms before after)
+    MarksWritten before after (Ok n) = MarksComplete K rows x tick before after n
+    MarksWritten before after (Err e) = MarksCut K rows x tick before after
+
+    -- the want cells and the mark cells of a judged table: marks come once all want lists are written
+    abbrev pub MarkedTable : List (Piece Bool) → List (Piece Bool) → List Mark → List Mark → Result ℕ MarkFault → Type 0
+    MarkedTable wants wants' marks marks' (Ok n) = WantsComplete K rows x tick wants wants' × MarksComplete K rows x tick marks marks' n
+    MarkedTable wants wants' marks marks' (Err (Judging f)) = ⊥
+    MarkedTable wants wants' marks marks' (Err WantCells) = WantsCut K rows x tick wants wants' × (marks' ≡ marks)
+    MarkedTable wants wants' marks marks' (Err MarkCells) = WantsComplete K rows x tick wants wants' × MarksCut K rows x tick marks marks'

@@ -1,13 +1,11 @@
 // Judging a rule on a job.
-ghost use Rattle.std.specs.Prelude.{◌≡◌, ℕ, ◌<◌, ◌≤◌, length};
-ghost use Rattle.grades.specs.Kinds.{Tells};
-ghost use Rattle.rules.specs.Rows.{row_at};
+ghost use Rattle.std.specs.Prelude.{length};
 ghost use Rattle.rules.specs.Texts.{table_of};
-ghost use Rattle.meaning.specs.Marks.{Tests};
 ghost use Rattle.runs.specs.States.{readings_of};
 ghost use Rattle.runs.specs.Calls.{JudgeTurn};
 ghost use Rattle.jobs.specs.Jobs.{state_of};
-ghost use Rattle.judge.specs.Answers.{JudgedTable, judge_reply, JudgeCells};
+ghost use Rattle.judge.specs.Judges.{JudgedTable};
+ghost use Rattle.judge.specs.Answers.{judge_reply, JudgeCells};
 
 use crate::fault::JudgeFault;
 use crate::judgement::Judgement;
@@ -16,33 +14,10 @@ use grades::grade::Grade;
 use grades::range::Range;
 use jobs::job::Job;
 use pieces::piece::Piece;
-use rules::row::Row;
 use rules::rule::Rule;
 
 // The last tick at which a rule may be judged.
 const LAST_TICK: u32 = 500_000_000;
-
-// Whether the row tests a line that is not among the first `lines`.
-fn lacks(row: Row, lines: usize) -> bool
-    ensures { Tells result ((line : ℕ) × (Tests row line × (lines ≤ line))) }
-{
-    match row {
-        Row::Test { line, .. } => line as usize >= lines,
-        _ => false,
-    }
-}
-
-// Whether each line that the rows test is among the first `lines`.
-fn has_lines(rows: &[Row], lines: usize) -> bool
-    ensures { Tells result ((k line : ℕ) → k < length rows.now → Tests (row_at rows.now k) line → line < lines) }
-{
-    for row in rows {
-        if lacks(*row, lines) {
-            return false;
-        }
-    }
-    true
-}
 
 // Judges a rule's table on the job, or says why not.
 pub(crate) fn judge_table<'a, G: Grade>(
@@ -53,7 +28,7 @@ pub(crate) fn judge_table<'a, G: Grade>(
 ) -> Result<Judgement<G>, JudgeFault>
     ensures { JudgedTable G.Grade.kind G.Grade.value (state_of job.now) (table_of rule.now) tick cells.old cells.new result }
 {
-    if !has_lines(rule.rows(), job.lines()) {
+    if !rule.tests_only_below(job.lines()) {
         return Err(JudgeFault::NoSuchLine);
     }
     if tick > LAST_TICK {

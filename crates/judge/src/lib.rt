@@ -15,7 +15,6 @@ mod look;
 pub mod marking;
 pub mod number;
 mod ors;
-mod parents;
 mod rows;
 mod steps;
 mod stretches;

@@ -6,7 +6,8 @@ ghost use Rattle.runs.specs.Calls.{MarkTurn};
 ghost use Rattle.runs.specs.Law.{LawOfRuns};
 ghost use Rattle.jobs.specs.Jobs.{state_of};
 ghost use Rattle.judge.specs.Judged.{JudgedStands};
-ghost use Rattle.judge.specs.Answers.{mark_reply, MarkedCells, MarkedTable};
+ghost use Rattle.judge.specs.Markings.{MarkedTable};
+ghost use Rattle.judge.specs.Answers.{mark_reply, MarkedCells};
 
 use crate::fault::MarkFault;
 use crate::judged::Judged;

@@ -6,11 +6,11 @@ ghost use Rattle.judge.specs.Judged.{JudgedStands};
 use crate::judged::Judged;
 use crate::lines::Lines;
 use crate::lists::Lists;
-use crate::parents::parent_of;
 use crate::want_signals::{ChildRow, LastRow};
 use grades::grade::Grade;
 use pieces::piece::Piece;
 use pieces::sweep::{Full, sweep};
+use rules::parents::parent_in;
 
 impl<'a, 'b, 'c, 'd, G: Grade, L: Lines> Judged<'a, 'b, 'c, 'd, G, L> {
     // The want list of the row that has i rows behind it, whose own lists are done: the last row is wanted at the tick alone, and any other
@@ -31,7 +31,8 @@ impl<'a, 'b, 'c, 'd, G: Grade, L: Lines> Judged<'a, 'b, 'c, 'd, G, L> {
         }
         let last = self.rows.len() - 1;
         let child = last - i;
-        let number = parent_of(self.rows, child);
+        // Each row but the last has a parent.
+        let number = parent_in(self.rows, child).unwrap();
         let signal = ChildRow {
             row: self.rows[number],
             number,

@@ -12,7 +12,8 @@ use Rattle.meaning.specs.Readings.{Readings, AllWithin, Exact}
 use Rattle.meaning.specs.Values.{over, until_at, step, value}
 use Rattle.meaning.specs.Verdicts.{ranges, verdict}
 use Rattle.meaning.specs.Wants.{Lowest, Open, Wants, Wanted, asked, passed}
-use Rattle.meaning.specs.Marks.{Tests, Marked, Marks, AtMarks}
+use Rattle.rules.specs.Tested.{Tests}
+use Rattle.meaning.specs.Marks.{Marked, Marks, AtMarks}
 use Rattle.meaning.proofs.Gaps.{one_gap}
 use Rattle.meaning.proofs.Deciding.{first}
 use Rattle.meaning.proofs.Rows.{root_below, value_is, by_rows}

@@ -11,7 +11,8 @@ use Rattle.meaning.specs.Readings.{Readings}
 use Rattle.meaning.specs.Values.{value}
 use Rattle.meaning.specs.Verdicts.{ranges}
 use Rattle.meaning.specs.Wants.{Open, Wants, Wanted}
-use Rattle.meaning.specs.Marks.{Tests, Marked, Marks}
+use Rattle.rules.specs.Tested.{Tests}
+use Rattle.meaning.specs.Marks.{Marked, Marks}
 use Rattle.meaning.proofs.Deciding.{both?, either?, not?, as?, three?, some?}
 use Rattle.meaning.proofs.Wanting.{root_wanted, child_wanted, wanted_below}
 use Rattle.meaning.proofs.Bounded.{wants_after, wanted_near}

@@ -10,7 +10,8 @@ use Rattle.rules.specs.declared.row.Row.{Row}
 use Rattle.meaning.specs.Values.{over, step, values, value}
 use Rattle.meaning.specs.Verdicts.{ranges}
 use Rattle.meaning.specs.Wants.{Wants, Wanted, asked, passed}
-use Rattle.meaning.specs.Marks.{Tests, Longest, Marked, Marks}
+use Rattle.rules.specs.Tested.{Tests}
+use Rattle.meaning.specs.Marks.{Longest, Marked, Marks}
 use Rattle.meaning.specs.Cases.{guard, forecast, refined, stretch}
 
 -- where the last row is settled, nothing else is wanted

@@ -11,11 +11,11 @@ use Rattle.meaning.specs.declared.outcome.Outcome.{Outcome}
 use Rattle.meaning.specs.declared.mark.Mark.{Mark}
 use Rattle.meaning.specs.Readings.{Readings, widest, entered}
 use Rattle.meaning.specs.Verdicts.{verdict}
-use Rattle.meaning.specs.Outcomes.{outcome_of_lem}
+use Rattle.meaning.specs.Outcomes.{outcome_at}
 
 -- the verdict in truth comes to this
 abbrev pub ComesTo : List Row → Readings → ℕ → Outcome → Type 0
-ComesTo rows x t o = outcome_of_lem (verdict truths rows x t) ≡ o
+ComesTo rows x t o = outcome_at (verdict truths rows x t) ≡ o
 
 -- the verdict in margin has these ends
 abbrev pub MarginFrom : List Row → Readings → ℕ → ℤ → ℤ → Type 0

@@ -3,23 +3,13 @@ use Rattle.std.specs.Prelude.{◌≡◌, ℕ, suc, ◌<◌, ◌≤◌, ◌⊎◌
 use Rattle.grades.specs.Kinds.{Kind}
 use Rattle.grades.specs.Ranges.{Settled}
 use Rattle.rules.specs.Rows.{row_at}
+use Rattle.rules.specs.Tested.{Tests}
 use Rattle.rules.specs.declared.row.Row.{Row}
-use Rattle.rules.specs.declared.row.Row.TheVariants.{Test, Not, And, Or, Eventually, Always, Until}
 use Rattle.meaning.specs.declared.mark.Mark.{Mark}
 use Rattle.meaning.specs.Readings.{Readings}
 use Rattle.meaning.specs.Values.{value}
 use Rattle.meaning.specs.Verdicts.{ranges}
 use Rattle.meaning.specs.Wants.{Wanted}
-
--- the row is a test of the line
-abbrev pub Tests : Row → ℕ → Type 0
-Tests (Test l s m) line = line ≡ l
-Tests (Not a) line = ⊥
-Tests (And a b) line = ⊥
-Tests (Or a b) line = ⊥
-Tests (Eventually a b d) line = ⊥
-Tests (Always a b d) line = ⊥
-Tests (Until a b l r) line = ⊥
 
 -- P holds from `first` to the tick before `after`, and at neither neighbour
 pub record Longest (P : ℕ → Type 0) (first after : ℕ) : Type 0 where

@@ -10,6 +10,6 @@ by_ends true false = Unsure
 by_ends false true = Unsure
 by_ends false false = Fail
 
--- settled true, settled false, or neither
-abbrev pub outcome_of_lem : Span Bool → Outcome
-outcome_of_lem p = by_ends p.low p.high
+-- pass if settled true, fail if settled false, and else unsure
+abbrev pub outcome_at : Span Bool → Outcome
+outcome_at p = by_ends p.low p.high

@@ -13,7 +13,8 @@ ghost use Rattle.meaning.specs.Limits.{grade_of};
 ghost use Rattle.meaning.specs.Verdicts.{grades, ranges, verdict, exact_grade, Meant};
 ghost use Rattle.meaning.specs.Wants.{Wants, Wanted};
 ghost use Rattle.meaning.specs.Untils.{FirstLowest, LastNeeded, NoneNeeded};
-ghost use Rattle.meaning.specs.Marks.{Tests, Listed, Marked, Marks, AtMarks};
+ghost use Rattle.rules.specs.Tested.{Tests};
+ghost use Rattle.meaning.specs.Marks.{Listed, Marked, Marks, AtMarks};
 
 use grades::grade::Grade;
 

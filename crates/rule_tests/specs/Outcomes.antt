@@ -6,9 +6,9 @@ use Rattle.rule_tests.specs.declared.outcome.Outcome.{Outcome}
 use Rattle.rule_tests.specs.declared.outcome.Outcome.TheVariants.{Read, Refused}
 use Rattle.rule_tests.specs.declared.tally.Tally.{Tally}
 
-abbrev pub outcome_of_lem : Answer → Outcome
-outcome_of_lem (Ok rows) = Read (length rows) (reach rows)
-outcome_of_lem (Err f) = Refused f
+abbrev pub case_outcome : Answer → Outcome
+case_outcome (Ok rows) = Read (length rows) (reach rows)
+case_outcome (Err f) = Refused f
 
 -- one more, as far as 64 bits go
 abbrev pub one_more : ℕ → ℕ

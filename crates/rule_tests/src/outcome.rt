@@ -1,7 +1,7 @@
 // What a rule text is answered, in short: how many rows and how far they look, or the refusal.
 ghost use Rattle.std.specs.Prelude.{◌≡◌};
 ghost use Rattle.rules.specs.Texts.{answer_of};
-ghost use Rattle.rule_tests.specs.Outcomes.{outcome_of_lem};
+ghost use Rattle.rule_tests.specs.Outcomes.{case_outcome};
 
 use rules::fault::RuleFault;
 use rules::rule::Rule;
@@ -15,7 +15,7 @@ pub(crate) enum Outcome {
 
 impl Outcome {
     pub(crate) fn of(answer: &Result<Rule, RuleFault>) -> Outcome
-        ensures { result ≡ outcome_of_lem (answer_of answer.now) }
+        ensures { result ≡ case_outcome (answer_of answer.now) }
     {
         match answer {
             Ok(rule) => Outcome::Read {

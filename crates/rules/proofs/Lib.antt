@@ -12,3 +12,4 @@ pub mod Answering
 pub mod OneAnswer
 pub mod Stopping
 pub mod AnswerSound
+pub mod Looking

@@ -1,4 +1,6 @@
 pub mod Rows
+pub mod Parents
+pub mod Tested
 pub mod Grammar
 pub mod Tables
 pub mod Readers

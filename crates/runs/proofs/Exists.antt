@@ -1,5 +1,5 @@
 -- Every list of calls has a run: each condition can be told, and what an accepted call has to find is there.
-use Rattle.std.proofs.Common.{◌≡◌, ℕ, suc, ◌+◌, ◌<◌, ◌≤◌, Bool, true, false, List, [], ◌∷◌, length, get_or, set, ℤ, pos, negsuc, ◌≤ℤ◌, Some, None, Ok, Err, Option, Result, sym, refl, ap, ◌∙◌, subst, inl, inr, arith}
+use Rattle.std.proofs.Common.{◌≡◌, ℕ, suc, ◌+◌, ◌<◌, ◌≤◌, Bool, true, false, List, [], ◌∷◌, length, get_or, set, ℤ, pos, negsuc, ◌≤ℤ◌, Some, None, Ok, Err, Option, Result, sym, refl, ap, ◌∙◌, subst, inr, arith}
 use native.Mathlib.Decide.{dec_lt, dec_le}
 use lib.Signed.{≤ℤ_refl, le_z}
 use Rattle.std.proofs.lemmas.Int.{ints, clamps}
@@ -17,38 +17,24 @@ use Rattle.meaning.specs.declared.mark.Mark.{Mark}
 use Rattle.meaning.specs.Readings.{Readings, Ends, Reads, widest, Within, entered}
 use Rattle.meaning.specs.Values.{value}
 use Rattle.meaning.specs.Verdicts.{ranges, verdict}
-use Rattle.meaning.specs.Marks.{Tests, Marked}
+use Rattle.rules.specs.Tested.{Tests}
+use Rattle.meaning.specs.Marks.{Marked}
 use Rattle.meaning.proofs.Readings.{reading_same, entered_elsewhere}
 use Rattle.meaning.proofs.Deciding.{both?, not?, as?, first, some?}
 use Rattle.meaning.proofs.Decided.{has_marks}
 use Rattle.meaning.proofs.Pinned.{lists_same}
 use Rattle.runs.specs.States.{State, readings_of, made, opened}
 use Rattle.runs.specs.Conditions.{Condition, FirstFailing}
-use Rattle.runs.specs.Jobs.{JobCall, enter, known, tally, seal, accepted, first_unknown, count, counted, Narrows, Set, Room, enter_asks, FirstUnknown, job_asks, JobTurn}
+use Rattle.runs.specs.Jobs.{JobCall, enter, known, tally, seal, JobAnswer, accepted, first_unknown, count, counted, Narrows, Set, Room, enter_asks, FirstUnknown, job_asks, JobTurn}
 use Rattle.runs.specs.Calls.{Table, all, HasLines, RowLists, judge_asks, mark_asks, JudgeTurn, Marking, MarkTurn}
 use Rattle.runs.specs.Runs.{Call, on_job, judge, mark, Reply, event, Replies, events, Turn, Ran}
 use Rattle.runs.specs.Law.{Run}
-use Rattle.runs.proofs.Turns.{made_is, set_reads, entry_passes, opened_reads}
+use Rattle.runs.proofs.Conditions.{AllTold, first_failing}
+use Rattle.runs.proofs.Settings.{EndsAt}
+use Rattle.runs.proofs.Turns.{made_is, entry_passes, turn_ends, opened_reads}
 use Rattle.runs.proofs.Settling.{rows_settle}
 use Rattle.runs.proofs.Collecting.{collect, same_lists}
 use Rattle.runs.proofs.WantedLists.{want_lists, one_want_lists}
-
--- conditions that can be told one after the other have a first that fails, or none
-abbrev pub AllTold : List Condition → Type 0
-AllTold [] = Unit {0}
-AllTold (c ∷ cs) = Dec c.holds × (c.holds → AllTold cs)
-
-pub first_failing : (cs : List Condition) → AllTold cs → (o : Option ℕ) × FirstFailing cs o
-first_failing [] d = (None, refl)
-first_failing (c ∷ cs) d =
-    elim d.0 [
-      | yes h ↦ let r = first_failing cs (d.1 h) in (r.0, inr (h, r.1))
-      | no h ↦ (Some c.number, inl (h, refl))
-    ]
-
--- nothing is known from this tick on
-abbrev pub EndsAt : ℕ → State → Type 0
-EndsAt e s = (line t : ℕ) → e ≤ t → readings_of s line t ≡ widest
 
 ℤ-le? : (a b : ℤ) → Dec (a ≤ℤ b)
 ℤ-le? a b = elim (le_z a b) as (λ (x : Bool). le_z a b ≡ x → Dec (a ≤ℤ b)) [ true ↦ λ e. yes (grind (arith, ints)) | false ↦ λ e. no (λ h. grind (arith, ints)) ] refl
@@ -117,52 +103,37 @@ module _ (e : ℕ) (s : State) (ends : EndsAt e s) where
       let lt : r < suc e = elim (dec_lt r (suc e)) [ yes l ↦ l | no n ↦ absurd (is.none e (omega arith) (omega (arith, n, is.to)) (ends line e (omega arith))) ] in
       (r, record { here = is.here (omega arith); before = λ u a h. is.none u (omega arith) a h })
 
--- an accepted entry leaves the readings unknown from there on
-entered_ends : (e : ℕ) (s z : State) (line from to : ℕ) (lower upper : ℤ) (p : Reading) (ps : List (Piece Reading)) (n : ℕ) → EndsAt e s → to ≤ e → line < length s.lines → Set s line from to lower upper p ps → z ≡ record { lines = set s.lines line ps; tally = n; sealed = s.sealed } → EndsAt e z
-entered_ends e s z line from to lower upper p ps n ends le lt h is k t a =
-    set_reads s z line from to lower upper p ps n lt h is k t ∙ entered_elsewhere (readings_of s) line from to p k t (inr (inr (omega arith))) ∙ ends k t a
-
--- a call's reply and the state that it leaves
-abbrev Goes : (e : ℕ) {R : Type 0} → (R → State → Type 0) → Type 0
-Goes e {R} T = (r : R) × ((z : State) × (T r z × EndsAt e z))
-
-same_ends : (e : ℕ) (s z : State) → z ≡ s → EndsAt e s → EndsAt e z
-same_ends e s z is h = subst (λ (v : State). EndsAt e v) (sym is) h
-
 sealed? : (b : Bool) → Dec (b ≡ false)
 sealed? false = yes refl
 sealed? true = no (λ h. let z : ◌≡◌ {A = ℕ} 0 1 = cc in omega arith)
 
--- e is at least the last tick that an entry may name
-module _ (e : ℕ) (far : 1000000001 ≤ e) where
-  enter_told : (s : State) → EndsAt e s → (line from to : ℕ) (lower upper : ℤ) → AllTold (enter_asks s line from to lower upper)
-  enter_told s ends line from to lower upper =
+module _ (e : ℕ) (far : 1000000001 ≤ e) (s : State) (ends : EndsAt e s) where
+  enter_told : (line from to : ℕ) (lower upper : ℤ) → AllTold (enter_asks s line from to lower upper)
+  enter_told line from to lower upper =
       (sealed? s.sealed, λ _. (dec_lt line (length s.lines), λ _. (both? (dec_lt from to) (dec_le to 1000000001), λ st. (ends? lower upper, λ h. (narrows? s line from to lower upper h, λ _. (room? e s ends line from to lower upper (omega (arith, st.1)) h, λ _. tt))))))
 
-  pub enter_goes : (s : State) → EndsAt e s → (line from to : ℕ) (lower upper : ℤ) → Goes e (JobTurn s (enter line from to lower upper))
-  enter_goes s ends line from to lower upper = by (first_failing (enter_asks s line from to lower upper) (enter_told s ends line from to lower upper))
+  pub enter_goes : (line from to : ℕ) (lower upper : ℤ) → (r : Result JobAnswer ℕ) × ((z : State) × JobTurn s (enter line from to lower upper) r z)
+  enter_goes line from to lower upper = by (first_failing (enter_asks s line from to lower upper) (enter_told line from to lower upper))
     where
-      by : (o : Option ℕ) × FirstFailing (enter_asks s line from to lower upper) o → Goes e (JobTurn s (enter line from to lower upper))
-      by (Some n, h) = (Err n, (s, ((h, refl), ends)))
+      by : (o : Option ℕ) × FirstFailing (enter_asks s line from to lower upper) o → (r : Result JobAnswer ℕ) × ((z : State) × JobTurn s (enter line from to lower upper) r z)
+      by (Some n, h) = (Err n, (s, (h, refl)))
       by (None, h) =
           let ok = entry_passes s line from to lower upper h in
-          let le : to ≤ e = omega (arith, ok.stretch.1) in
-          let l = set_list e s ends line from to lower upper le ok.ends in
-          let z : State = record { lines = set s.lines line l.0; tally = counted s.tally; sealed = s.sealed } in
-          (Ok accepted, (z, ((h, (refl, (made lower upper, (l.0, (l.1, refl))))), entered_ends e s z line from to lower upper (made lower upper) l.0 (counted s.tally) ends le ok.there l.1 refl)))
+          let l = set_list e s ends line from to lower upper (omega (arith, ok.stretch.1)) ok.ends in
+          (Ok accepted, (record { lines = set s.lines line l.0; tally = counted s.tally; sealed = s.sealed }, (h, (refl, (made lower upper, (l.0, (l.1, refl)))))))
 
-  known_goes : (s : State) → EndsAt e s → (line : ℕ) → Goes e (JobTurn s (known line))
-  known_goes s ends line = by (first_failing (job_asks s (known line)) (dec_lt line (length s.lines), λ _. tt))
+  known_goes : (line : ℕ) → (r : Result JobAnswer ℕ) × ((z : State) × JobTurn s (known line) r z)
+  known_goes line = by (first_failing (job_asks s (known line)) (dec_lt line (length s.lines), λ _. tt))
     where
-      by : (o : Option ℕ) × FirstFailing (job_asks s (known line)) o → Goes e (JobTurn s (known line))
-      by (Some n, h) = (Err n, (s, ((h, refl), ends)))
-      by (None, h) = let t = known_tick e s ends line in (Ok (first_unknown t.0), (s, ((h, (t.0, (t.1, refl, refl))), ends)))
+      by : (o : Option ℕ) × FirstFailing (job_asks s (known line)) o → (r : Result JobAnswer ℕ) × ((z : State) × JobTurn s (known line) r z)
+      by (Some n, h) = (Err n, (s, (h, refl)))
+      by (None, h) = let t = known_tick e s ends line in (Ok (first_unknown t.0), (s, (h, (t.0, (t.1, refl, refl)))))
 
-  job_goes : (s : State) → EndsAt e s → (c : JobCall) → Goes e (JobTurn s c)
-  job_goes s ends (enter line from to lower upper) = enter_goes s ends line from to lower upper
-  job_goes s ends (known line) = known_goes s ends line
-  job_goes s ends tally = (Ok (count s.tally), (s, ((refl, (refl, refl)), ends)))
-  job_goes s ends seal = (Ok accepted, (record { lines = s.lines; tally = s.tally; sealed = true }, ((refl, (refl, refl)), ends)))
+  job_goes : (c : JobCall) → (r : Result JobAnswer ℕ) × ((z : State) × JobTurn s c r z)
+  job_goes (enter line from to lower upper) = enter_goes line from to lower upper
+  job_goes (known line) = known_goes line
+  job_goes tally = (Ok (count s.tally), (s, (refl, (refl, refl))))
+  job_goes seal = (Ok accepted, (record { lines = s.lines; tally = s.tally; sealed = true }, (refl, (refl, refl))))
 
 -- the line that a row tests
 bad_test? : (n : ℕ) (r : Row) → Dec ((line : ℕ) × Tests r line × (line < n → ⊥))
@@ -233,17 +204,17 @@ module _ {K : Kind} (L : Lawful K) where
         by (None, h) = let m = has_marks L a.sound x t in (Ok (record { verdict = verdict K rows x t; marks = m.0 }), (h, refl, m.1))
 
 module _ {N : Type 0} (kinds : N → Kind) (lawful : (n : N) → Lawful (kinds n)) where
-  turn_goes : (e : ℕ) → 1000000001 ≤ e → (s : State) → EndsAt e s → (c : Call kinds) → (r : Reply kinds c) × ((z : State) × (Turn kinds s (event c r) z × EndsAt e z))
+  turn_goes : (e : ℕ) → 1000000001 ≤ e → (s : State) → EndsAt e s → (c : Call kinds) → (r : Reply kinds c) × ((z : State) × Turn kinds s (event c r) z)
   turn_goes e far s ends (on_job c) = job_goes e far s ends c
-  turn_goes e far s ends (judge n a t c) = let r = judge_goes (lawful n) e s ends a t c in (r.0, (s, ((r.1, refl), ends)))
-  turn_goes e far s ends (mark n a t c w m) = let r = mark_goes (lawful n) e s ends a t c w m in (r.0, (s, ((r.1, refl), ends)))
+  turn_goes e far s ends (judge n a t c) = let r = judge_goes (lawful n) e s ends a t c in (r.0, (s, (r.1, refl)))
+  turn_goes e far s ends (mark n a t c w m) = let r = mark_goes (lawful n) e s ends a t c w m in (r.0, (s, (r.1, refl)))
 
   ran_goes : (e : ℕ) → 1000000001 ≤ e → (s : State) → EndsAt e s → (cs : List (Call kinds)) → (rs : Replies kinds cs) × ((z : State) × Ran kinds s (events kinds cs rs) z)
   ran_goes e far s ends [] = (tt, (s, refl))
   ran_goes e far s ends (c ∷ cs) =
       let one = turn_goes e far s ends c in
-      let more = ran_goes e far one.1.0 one.1.1.1 cs in
-      ((one.0, more.0), (more.1.0, (one.1.0, (one.1.1.0, more.1.1))))
+      let more = ran_goes e far one.1.0 (turn_ends kinds e far s one.1.0 (event c one.0) one.1.1 ends) cs in
+      ((one.0, more.0), (more.1.0, (one.1.0, (one.1.1, more.1.1))))
 
   pub run_exists : (lines : ℕ) (cs : List (Call kinds)) → Run kinds lines cs
   run_exists lines cs =

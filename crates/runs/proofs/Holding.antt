@@ -14,7 +14,8 @@ use Rattle.meaning.proofs.Kept.{values_nest, values_hold}
 use Rattle.meaning.proofs.Blame.{marks_suffice_lem, marks_settle_lem}
 use Rattle.runs.specs.States.{State, opened, readings_of}
 use Rattle.runs.specs.Runs.{Event, Turn, Ran, standing, Gives, by_judge, by_mark, MarksBy, marked, AllMiss}
-use Rattle.runs.proofs.Turns.{ran_narrows, turn_narrows, ran_keeps, ran_split, ran_join, opened_reads, within_refl, within_trans}
+use Rattle.runs.proofs.Settings.{within_refl, within_trans}
+use Rattle.runs.proofs.Turns.{ran_narrows, turn_narrows, ran_keeps, ran_split, ran_join, opened_reads}
 
 -- what an accepted judgement or marking of the state s says
 pub record Said (K : Kind) (s : State) (rows : List Row) (t : ℕ) (p : Span K.Value) : Type 0 where

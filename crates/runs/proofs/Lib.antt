@@ -1,3 +1,5 @@
+pub mod Conditions
+pub mod Settings
 pub mod Turns
 pub mod Holding
 pub mod Unique
@@ -5,3 +7,4 @@ pub mod Settling
 pub mod Collecting
 pub mod WantedLists
 pub mod Exists
+pub mod Keeping

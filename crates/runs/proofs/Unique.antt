@@ -1,5 +1,5 @@
 -- A list of calls has one run at most.
-use Rattle.std.proofs.Common.{◌≡◌, ℕ, ◌<◌, Bool, true, false, ltb, ◌⊎◌, List, [], ◌∷◌, ◌++◌, set, Some, None, Ok, Err, Option, Result, sym, refl, ap, ◌∙◌, subst, inl, inr, arith, ltb-false, ltb-true}
+use Rattle.std.proofs.Common.{◌≡◌, ℕ, ◌<◌, Bool, true, false, ltb, ◌⊎◌, List, [], ◌∷◌, ◌++◌, set, Some, None, Ok, Err, Result, sym, refl, ap, ◌∙◌, subst, inl, inr, arith, ltb-false, ltb-true}
 use Rattle.grades.specs.Kinds.{Kind}
 use Rattle.grades.specs.Ranges.{Span}
 use Rattle.pieces.specs.declared.piece.Piece.{Piece}
@@ -10,19 +10,12 @@ use Rattle.meaning.specs.Readings.{Readings, entered}
 use Rattle.meaning.specs.Marks.{Marked}
 use Rattle.meaning.proofs.Pinned.{lists_same}
 use Rattle.runs.specs.States.{State, opened, readings_of}
-use Rattle.runs.specs.Conditions.{Condition, FirstFailing}
 use Rattle.runs.specs.Jobs.{JobCall, enter, known, tally, seal, JobAnswer, first_unknown, counted, FirstUnknown, job_asks, JobDoes, JobTurn}
 use Rattle.runs.specs.Calls.{Table, Marking, judge_asks, mark_asks, JudgeTurn, MarkTurn}
 use Rattle.runs.specs.Runs.{Call, on_job, judge, mark, Reply, Event, event, Replies, events, Turn, Ran}
 use Rattle.runs.specs.Law.{Run}
+use Rattle.runs.proofs.Conditions.{one_failing}
 use Rattle.runs.proofs.Turns.{made_is, ran_split}
-
-pub one_failing : (cs : List Condition) (o p : Option ℕ) → FirstFailing cs o → FirstFailing cs p → o ≡ p
-one_failing [] o p h k = h ∙ sym k
-one_failing (c ∷ cs) o p (inl h) (inl k) = h.1 ∙ sym k.1
-one_failing (c ∷ cs) o p (inl h) (inr k) = absurd (h.0 k.0)
-one_failing (c ∷ cs) o p (inr h) (inl k) = absurd (k.0 h.0)
-one_failing (c ∷ cs) o p (inr h) (inr k) = one_failing cs o p h.1 k.1
 
 never : {X : Type 0} (n : ℕ) → None ≡ Some n → X
 never n e = let z : ◌≡◌ {A = ℕ} 0 1 = cc in absurd (omega arith)

@@ -3,7 +3,7 @@ use Rattle.std.specs.Prelude.{◌≡◌, ℕ, ◌-◌, ◌<◌, ◌≤◌, Bool,
 use Rattle.grades.specs.Kinds.{Kind, Tells}
 use Rattle.grades.specs.Ranges.{Span}
 use Rattle.rules.specs.declared.row.Row.{Row}
-use Rattle.rules.specs.Rows.{row_at, root, Sound}
+use Rattle.rules.specs.Rows.{root, Sound}
 use Rattle.pieces.specs.declared.piece.Piece.{Piece}
 use Rattle.pieces.specs.Pieces.{Lists}
 use Rattle.meaning.specs.declared.mark.Mark.{Mark}
@@ -11,7 +11,8 @@ use Rattle.meaning.specs.Readings.{Readings}
 use Rattle.meaning.specs.Values.{value}
 use Rattle.meaning.specs.Verdicts.{ranges, verdict}
 use Rattle.meaning.specs.Wants.{Wanted}
-use Rattle.meaning.specs.Marks.{Tests, Marks}
+use Rattle.rules.specs.Tested.{TestsOnlyBelow}
+use Rattle.meaning.specs.Marks.{Marks}
 use Rattle.runs.specs.States.{State, readings_of}
 use Rattle.runs.specs.Conditions.{Condition, asks, FirstFailing}
 
@@ -27,7 +28,7 @@ all (xs ∷ xss) = xs ++ all xss
 
 -- the job has each line that the rule tests
 abbrev pub HasLines : State → List Row → Type 0
-HasLines s rows = (k line : ℕ) → k < length rows → Tests (row_at rows k) line → line < length s.lines
+HasLines s rows = TestsOnlyBelow rows (length s.lines)
 
 module _ (K : Kind) (rows : List Row) (x : Readings) where
   -- the piece lists of all rows, in row order

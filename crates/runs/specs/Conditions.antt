@@ -12,3 +12,8 @@ asks n P = record { number = n; holds = P }
 abbrev pub FirstFailing : List Condition → Option ℕ → Type 0
 FirstFailing [] o = o ≡ None
 FirstFailing (c ∷ cs) o = ((c.holds → ⊥) × (o ≡ Some c.number)) ⊎ (c.holds × FirstFailing cs o)
+
+-- each condition holds
+abbrev pub AllHold : List Condition → Type 0
+AllHold [] = Unit {0}
+AllHold (c ∷ cs) = c.holds × AllHold cs

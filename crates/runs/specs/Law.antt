@@ -1,14 +1,15 @@
 -- The law of runs: what holds of every list of calls on a job just opened, for every family of lawful kinds.
-use Rattle.std.specs.Prelude.{◌≡◌, ℕ, List, ◌∷◌, ◌++◌}
+use Rattle.std.specs.Prelude.{◌≡◌, ℕ, ◌<◌, min, List, [], ◌∷◌, ◌++◌, length, slice_index_or}
 use Rattle.grades.specs.Kinds.{Kind}
 use Rattle.grades.specs.Ranges.{Span, Inside, Holds, Settled}
 use Rattle.rules.specs.declared.row.Row.{Row}
+use Rattle.pieces.specs.Pieces.{Lists}
 use Rattle.meaning.specs.declared.mark.Mark.{Mark}
 use Rattle.meaning.specs.Readings.{Readings, Exact, AllWithin, AllExact}
 use Rattle.meaning.specs.Verdicts.{exact_grade}
 use Rattle.meaning.specs.Marks.{AtMarks}
 use Rattle.runs.specs.States.{State, opened, readings_of}
-use Rattle.runs.specs.Runs.{Call, Event, Replies, events, Ran, standing, Gives, MarksBy, AllMiss}
+use Rattle.runs.specs.Runs.{Call, Event, Replies, events, Ran, standing, entries, any_seal, Gives, MarksBy, AllMiss}
 
 module _ {N : Type 0} (kinds : N → Kind) where
   -- a list of calls on a job just opened, with the replies that it gets and the state that it ends in
@@ -34,6 +35,19 @@ module _ {N : Type 0} (kinds : N → Kind) where
   -- the job's piece lists read exactly what the accepted entries have set
   abbrev pub ReadsEntries : Type 0
   ReadsEntries = (lines : ℕ) (es : List (Event kinds)) (z : State) → Ran kinds (opened lines) es z → (line t : ℕ) → readings_of z line t ≡ standing kinds es line t
+
+  -- the job has the lines that it was opened with, and the pieces of each are the one list of what the accepted entries have set
+  abbrev pub KeepsLists : Type 0
+  KeepsLists =
+      (lines : ℕ) (es : List (Event kinds)) (z : State) → Ran kinds (opened lines) es z → (length z.lines ≡ lines) × ((line : ℕ) → line < lines → Lists (standing kinds es line) (slice_index_or z.lines line []))
+
+  -- the tally is how many entries were accepted, up to where it rests
+  abbrev pub CountsEntries : Type 0
+  CountsEntries = (lines : ℕ) (es : List (Event kinds)) (z : State) → Ran kinds (opened lines) es z → z.tally ≡ min (entries kinds es) 4294967295
+
+  -- the job is sealed exactly if one of the calls was a seal
+  abbrev pub SealsOnce : Type 0
+  SealsOnce = (lines : ℕ) (es : List (Event kinds)) (z : State) → Ran kinds (opened lines) es z → z.sealed ≡ any_seal kinds es
 
   -- a verdict lies inside each earlier one on the same rule, tick and kind
   abbrev pub VerdictsNest : Type 0
@@ -82,6 +96,9 @@ module _ {N : Type 0} (kinds : N → Kind) where
     pub one : OneRun
     pub each : EachState
     pub reads : ReadsEntries
+    pub lists : KeepsLists
+    pub counts : CountsEntries
+    pub seals : SealsOnce
     pub nest : VerdictsNest
     pub hold : VerdictsHold
     pub own : OwnVerdict

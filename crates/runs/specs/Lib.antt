@@ -1,3 +1,4 @@
+pub mod Nearest
 pub mod States
 pub mod Conditions
 pub mod Bounds
@@ -5,3 +6,4 @@ pub mod Jobs
 pub mod Calls
 pub mod Runs
 pub mod Law
+pub mod Families

@@ -1,14 +1,11 @@
 -- A job's state: each line's pieces, how many entries were accepted, and whether entering has ended.
-use Rattle.std.specs.Prelude.{ℕ, ◌/◌, min, Bool, false, List, [], ◌∷◌, replicate, ℤ, pos, negsuc, ◌≤ℤ◌, slice_index_or}
-use Rattle.std.proofs.Common.{arith}
-use Rattle.std.specs.Int.{int_min, int_max}
-use Rattle.std.proofs.lemmas.Int.{ints, clamps}
-use Rattle.rules.specs.Rows.{NumberFits}
+use Rattle.std.specs.Prelude.{ℕ, ◌/◌, min, Bool, false, List, [], ◌∷◌, replicate, ℤ, slice_index_or}
 use Rattle.pieces.specs.declared.piece.Piece.{Piece}
 use Rattle.pieces.specs.Pieces.{at_from}
 use Rattle.runs.specs.Bounds.{most_lines, line_cells}
 use Rattle.meaning.specs.declared.reading.Reading.{Reading}
 use Rattle.meaning.specs.Readings.{Readings, widest}
+use Rattle.runs.specs.Nearest.{low_end, high_end, low_fits, high_fits, ends_ordered}
 
 pub record State : Type 0 where
   pub lines : List (List (Piece Reading))
@@ -24,21 +21,6 @@ abbrev pub readings_of : State → Readings
 readings_of s line t = reading_at (slice_index_or s.lines line []) t
 
 -- the reading with these ends; numbers that are not the ends of one, which no accepted entry has, are moved to the nearest
-abbrev pub low_end : ℤ → ℤ
-low_end lower = int_max (negsuc 499999) (int_min lower (pos 500000))
-
-abbrev pub high_end : ℤ → ℤ → ℤ
-high_end lower upper = int_max (low_end lower) (int_min upper (pos 500000))
-
-pub low_fits : (lower : ℤ) → NumberFits (low_end lower)
-low_fits lower = omega (arith, ints, clamps)
-
-pub high_fits : (lower upper : ℤ) → NumberFits (high_end lower upper)
-high_fits lower upper = omega (arith, ints, clamps)
-
-pub ends_ordered : (lower upper : ℤ) → low_end lower ≤ℤ high_end lower upper
-ends_ordered lower upper = omega (arith, ints, clamps)
-
 abbrev pub made : ℤ → ℤ → Reading
 made lower upper = record { lower = low_end lower; upper = high_end lower upper; bottom = low_fits lower; top = high_fits lower upper; ordered = ends_ordered lower upper }
 

@@ -5,8 +5,8 @@ use Rattle.rules.specs.Rows.{Sound, reach}
 use Rattle.runs.specs.States.{readings_of}
 use Rattle.runs.specs.Calls.{MarkTurn}
 use Rattle.jobs.specs.Jobs.{state_of}
-use Rattle.judge.specs.Markings.{RangesStand}
-use Rattle.judge.specs.Answers.{MarkedTable, mark_reply, MarkedCells}
+use Rattle.judge.specs.Markings.{RangesStand, MarkedTable}
+use Rattle.judge.specs.Answers.{mark_reply, MarkedCells}
 use Rattle.judge.proofs.JudgedTables.{refused_cells}
 use Rattle.judge.proofs.MarkedTables.{refused_turn, short_turn, short_cells, marked_turn, judged_stand}
 use Rattle.judge.proofs.marking.mark.Goals as goal
@@ -94,6 +94,6 @@ returns g c =
     let m = subst (λ rs. MarkedTable K rs (readings_of s) c.args.tick wants wants' marks marks' (Ok n)) is c.in_ok-count.ensures in
     record {
       turn = marked_turn g.met.G.Grade.lawful val s rows sound c.args.tick cells after wants wants' marks marks' j h n m;
-      cells = ((h.2.0, h.2.1.0), m);
+      cells = ((h.2.0, h.2.1.0), m.0, m.1);
       law = c.runs_keep_the_law.ensures;
     }

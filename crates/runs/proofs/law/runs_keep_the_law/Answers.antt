@@ -1,5 +1,6 @@
 use Rattle.runs.specs.States.{opened}
 use Rattle.runs.proofs.Turns.{opened_reads}
+use Rattle.runs.proofs.Keeping.{keeps_lists, counts_entries, seals_once}
 use Rattle.runs.proofs.Holding.{own_verdict, own_alone, nest, hold, suffice, settle_own, settle}
 use Rattle.runs.proofs.Unique.{run_one, each}
 use Rattle.runs.proofs.Exists.{run_exists}
@@ -14,6 +15,9 @@ returns g c =
       one = run_one kinds;
       each = each kinds;
       reads = λ lines es z h. opened_reads kinds lines z es h;
+      lists = keeps_lists kinds;
+      counts = counts_entries kinds;
+      seals = seals_once kinds;
       nest = λ lines z. nest kinds lawful (opened lines) z;
       hold = hold kinds lawful;
       own = own_verdict kinds;

@@ -1,9 +1,9 @@
 use Rattle.std.proofs.Common.{ℕ, length, take, Ok, Err, sym, refl, arith}
 use Rattle.std.proofs.lemmas.Result.{err_from_is_err_and}
 use Rattle.grades.specs.Truths.{truths}
-use Rattle.grades.specs.Worth.{worth}
+use Rattle.grades.specs.Worth.{worth, truth_value}
 use Rattle.rules.specs.Texts.{table_of}
-use Rattle.meaning.specs.Outcomes.{outcome_of_lem}
+use Rattle.meaning.specs.Outcomes.{outcome_at}
 use Rattle.runs.specs.Calls.{Marking}
 use Rattle.judge.specs.Faults.{mark_number}
 use Rattle.jobs.specs.Jobs.{state_of}
@@ -31,10 +31,10 @@ returns-in_err-marking-clause-told c =
 
 pub returns-clause-told : goal.returns-clause-told
 returns-clause-told c =
-    let marked : Marking truths = record { verdict = worth truths (λ v. v.holds) c.in_ok-marking.marking.verdict; marks = take c.in_ok-marking.marking.marks c.mark.new.marks } in
+    let marked : Marking truths = record { verdict = worth truths truth_value c.in_ok-marking.marking.verdict; marks = take c.in_ok-marking.marking.marks c.mark.new.marks } in
     let turn = recounted truths (state_of c.args.job.now) (table_of c.args.rule.now) c.args.tick (length c.args.self.now.wants.now) (length c.args.self.now.marks.now) (Ok marked) c.judge.auto.cells c.in_ok-marking.ensures.turn in
-    let written = c.in_ok-marking.ensures.cells.1.1.1 in
-    let line = λ (n : ℕ). verdict_line c.args.tick (outcome_of_lem (worth truths (λ v. v.holds) c.in_ok-verdict.verdict)) c.in_ok-margin.margin.lower.number c.in_ok-margin.margin.upper.number n in
+    let written = c.in_ok-marking.ensures.cells.2.1 in
+    let line = λ (n : ℕ). verdict_line c.args.tick (outcome_at (worth truths truth_value c.in_ok-verdict.verdict)) c.in_ok-margin.margin.lower.number c.in_ok-margin.margin.upper.number n in
     λ k. verdict _ _ marked c.in_ok-verdict.ensures.turn c.in_ok-margin.ensures.turn turn (sym (counted line c.in_ok-marking.marking.marks c.mark.new.marks (omega (arith, written.1, written.2.fits, c.mark.auto.marks))))
 
 pub returns-in_err-verdict-clause-leaves : goal.returns-in_err-verdict-clause-leaves
