@@ -8,7 +8,7 @@ use Rattle.rules.specs.declared.row.Row.{Row}
 use Rattle.runs.specs.States.{State, readings_of}
 use Rattle.runs.specs.Conditions.{Condition, FirstFailing}
 use Rattle.runs.specs.Calls.{judge_asks, JudgeTurn}
-use Rattle.runs.proofs.Conditions.{fails_behind}
+use Rattle.runs.proofs.Conditions.{failing_behind}
 use Rattle.judge.specs.declared.fault.JudgeFault.{JudgeFault}
 use Rattle.judge.specs.declared.fault.JudgeFault.TheVariants.{NoSuchLine, LateTick, RowCells}
 use Rattle.judge.specs.declared.judgement.Judgement.{Judgement}
@@ -27,7 +27,7 @@ module _ (K : Kind) {G : Type 0} (val : G → K.Value) (s : State) (rows : List 
   -- a judged table keeps all three conditions, so what is asked behind them decides
   pub judged_first : (more : List Condition) (j : Judgement G) → JudgedTable K val s rows tick before after (Ok j) → (o : Option ℕ) → FirstFailing more o → FirstFailing (judge_asks K s rows tick (length before) more) o
   judged_first more j h o rest =
-      fails_behind (judge_asks K s rows tick (length before) []) more o (h.0, (h.1, (complete_fits K rows (readings_of s) val before after h.2.0 h.2.1.0, tt))) rest
+      failing_behind (judge_asks K s rows tick (length before) []) more o (h.0, (h.1, (complete_fits K rows (readings_of s) val before after h.2.0 h.2.1.0, tt))) rest
 
   pub refused_cells : (f : JudgeFault) → JudgedTable K val s rows tick before after (Err f) → RefusedCells K val rows (readings_of s) before after f
   refused_cells NoSuchLine h = h.1

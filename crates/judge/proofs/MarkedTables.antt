@@ -10,7 +10,7 @@ use Rattle.meaning.specs.Marks.{Marked, Marks}
 use Rattle.meaning.proofs.Pinned.{lists_same}
 use Rattle.runs.specs.States.{State, readings_of}
 use Rattle.runs.specs.Calls.{all, WantLists, mark_asks, MarkTurn}
-use Rattle.runs.proofs.Conditions.{none_fails}
+use Rattle.runs.proofs.Conditions.{none_failing}
 use Rattle.runs.proofs.WantedLists.{one_want_lists}
 use Rattle.judge.specs.declared.fault.JudgeFault.{JudgeFault}
 use Rattle.judge.specs.declared.fault.MarkFault.{MarkFault}
@@ -57,7 +57,7 @@ module _ {K : Kind} (L : Lawful K) {G : Type 0} (val : G → K.Value) (s : State
         let z = m.1.1 in
         let listed : take n marks' ≡ m.1.0 = ap (λ k. take k marks') z.1 ∙ z.2.written in (
           judged_first K val s rows tick cells cells' (mark_asks K s rows tick (length wants) (length marks)) j h None
-              (none_fails (mark_asks K s rows tick (length wants) (length marks)) (wants_fit w.0 w.1.0 w.1.1.fits, (marks_fit m.1.0 z.0 z.2.fits, tt))),
+              (none_failing (mark_asks K s rows tick (length wants) (length marks)) (wants_fit w.0 w.1.0 w.1.1.fits, (marks_fit m.1.0 z.0 z.2.fits, tt))),
           h.2.1.2,
           subst (λ ns. Marks K rows (readings_of s) tick ns) (sym listed) z.0,
         )

@@ -7,14 +7,14 @@ all_hold [] h = tt
 all_hold (c ∷ cs) (inl h) = let e : Some c.number ≡ None = sym h.1 in let z : ◌≡◌ {A = ℕ} 0 1 = cc in absurd (omega arith)
 all_hold (c ∷ cs) (inr h) = (h.0, all_hold cs h.1)
 
-pub none_fails : (cs : List Condition) → AllHold cs → FirstFailing cs None
-none_fails [] h = refl
-none_fails (c ∷ cs) h = inr (h.0, none_fails cs h.1)
+pub none_failing : (cs : List Condition) → AllHold cs → FirstFailing cs None
+none_failing [] h = refl
+none_failing (c ∷ cs) h = inr (h.0, none_failing cs h.1)
 
 -- where each of the first conditions holds, those behind them decide
-pub fails_behind : (cs ds : List Condition) (o : Option ℕ) → AllHold cs → FirstFailing ds o → FirstFailing (cs ++ ds) o
-fails_behind [] ds o h k = k
-fails_behind (c ∷ cs) ds o h k = inr (h.0, fails_behind cs ds o h.1 k)
+pub failing_behind : (cs ds : List Condition) (o : Option ℕ) → AllHold cs → FirstFailing ds o → FirstFailing (cs ++ ds) o
+failing_behind [] ds o h k = k
+failing_behind (c ∷ cs) ds o h k = inr (h.0, failing_behind cs ds o h.1 k)
 
 -- one answer at most is the first that fails
 pub one_failing : (cs : List Condition) (o p : Option ℕ) → FirstFailing cs o → FirstFailing cs p → o ≡ p
