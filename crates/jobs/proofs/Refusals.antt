@@ -8,7 +8,7 @@ use Rattle.meaning.specs.Readings.{Ends, Reads, Within}
 use Rattle.meaning.proofs.Readings.{reading_same}
 use Rattle.runs.specs.States.{State, reading_at, readings_of}
 use Rattle.runs.specs.Conditions.{Condition, AllHold, FirstFailing}
-use Rattle.runs.proofs.Conditions.{none_fails, fails_behind}
+use Rattle.runs.proofs.Conditions.{none_failing, failing_behind}
 use Rattle.runs.specs.Jobs.{Narrows, Room, enter_asks}
 use Rattle.jobs.specs.declared.fault.EnterFault.{EnterFault}
 use Rattle.jobs.specs.declared.fault.EnterFault.TheVariants.{Sealed, NoSuchLine, BadStretch, NotReading, NotInside, TooManyPieces}
@@ -50,8 +50,8 @@ module _ (cells : List (Piece Reading)) (h : Held) (line from to : ℕ) (lower u
 
   pub barred_fails : (e : EnterFault) → Barred h line from to (Err e) → Fails e
   barred_fails Sealed b = inl (λ f. clash (sym f ∙ b), refl)
-  barred_fails NoSuchLine b = fails_behind (take 1 asked) (drop 1 asked) (Some 2) (b.0, tt) (inl (λ l. omega (arith, b.1, length_lines cells h), refl))
-  barred_fails BadStretch b = fails_behind (take 2 asked) (drop 2 asked) (Some 3) (b.0, (omega (arith, b.1, length_lines cells h), tt)) (inl (b.2, refl))
+  barred_fails NoSuchLine b = failing_behind (take 1 asked) (drop 1 asked) (Some 2) (b.0, tt) (inl (λ l. omega (arith, b.1, length_lines cells h), refl))
+  barred_fails BadStretch b = failing_behind (take 2 asked) (drop 2 asked) (Some 3) (b.0, (omega (arith, b.1, length_lines cells h), tt)) (inl (b.2, refl))
   barred_fails NotReading b = absurd b
   barred_fails NotInside b = absurd b
   barred_fails TooManyPieces b = absurd b
@@ -61,7 +61,7 @@ module _ (cells : List (Piece Reading)) (h : Held) (line from to : ℕ) (lower u
     there = omega (arith, b.1, length_lines cells h)
 
     pub fails_4 : (Ends lower upper → ⊥) → Fails NotReading
-    fails_4 n = fails_behind (take 3 asked) (drop 3 asked) (Some 4) (b.0, (there, ((b.2, b.3), tt))) (inl (n, refl))
+    fails_4 n = failing_behind (take 3 asked) (drop 3 asked) (Some 4) (b.0, (there, ((b.2, b.3), tt))) (inl (n, refl))
 
     module _ (p : Reading) (r : Reads lower upper (Some p)) (ps : List (Piece Reading)) (is : get_or s.lines line [] ≡ ps) where
       -- the reading is inside what the line reads on the stretch
@@ -70,7 +70,7 @@ module _ (cells : List (Piece Reading)) (h : Held) (line from to : ℕ) (lower u
 
       pub fails_5 : (Inside ps → ⊥) → Fails NotInside
       fails_5 n =
-          fails_behind (take 4 asked) (drop 4 asked) (Some 5) (b.0, (there, ((b.2, b.3), (ends_of lower upper p r, tt)))) (inl (λ all. n (subst Inside is (all p r)), refl))
+          failing_behind (take 4 asked) (drop 4 asked) (Some 5) (b.0, (there, ((b.2, b.3), (ends_of lower upper p r, tt)))) (inl (λ all. n (subst Inside is (all p r)), refl))
 
       pub is_ready : Inside ps → Ready s line from to p
       is_ready i = record { unsealed = b.0; there = there; stretch = (b.2, b.3); narrows = subst Inside (sym is) i }
@@ -87,7 +87,7 @@ module _ (s : State) (line from to : ℕ) (lower upper : ℤ) (p : Reading) (r :
   first_five = (ready.unsealed, (ready.there, (ready.stretch, (ends_of lower upper p r, (narrow, tt)))))
 
   pub fails_6 : (Room s line from to lower upper → ⊥) → FirstFailing asks_of (Some (fault_number TooManyPieces))
-  fails_6 n = fails_behind (take 5 asks_of) (drop 5 asks_of) (Some 6) first_five (inl (n, refl))
+  fails_6 n = failing_behind (take 5 asks_of) (drop 5 asks_of) (Some 6) first_five (inl (n, refl))
 
   pub all_pass : Room s line from to lower upper → FirstFailing asks_of None
-  all_pass room = fails_behind (take 5 asks_of) (drop 5 asks_of) None first_five (none_fails (drop 5 asks_of) (room, tt))
+  all_pass room = failing_behind (take 5 asks_of) (drop 5 asks_of) None first_five (none_failing (drop 5 asks_of) (room, tt))
