@@ -1,5 +1,5 @@
 -- The conditions of an entry, from the first that fails.
-use Rattle.std.proofs.Common.{◌≡◌, ℕ, ◌<◌, ◌≤◌, List, [], length, get_or, ℤ, ◌≤ℤ◌, Some, None, Ok, Err, Option, sym, refl, ◌∙◌, subst, inl, inr, arith}
+use Rattle.std.proofs.Common.{◌≡◌, ℕ, ◌<◌, ◌≤◌, List, [], length, get_or, take, drop, ℤ, ◌≤ℤ◌, Some, None, Ok, Err, Option, sym, refl, ◌∙◌, subst, inl, arith}
 use borrow.Author.Tests.{clash}
 use Rattle.rules.specs.Rows.{NumberFits}
 use Rattle.pieces.specs.declared.piece.Piece.{Piece}
@@ -7,7 +7,8 @@ use Rattle.meaning.specs.declared.reading.Reading.{Reading}
 use Rattle.meaning.specs.Readings.{Ends, Reads, Within}
 use Rattle.meaning.proofs.Readings.{reading_same}
 use Rattle.runs.specs.States.{State, reading_at, readings_of}
-use Rattle.runs.specs.Conditions.{FirstFailing}
+use Rattle.runs.specs.Conditions.{Condition, AllHold, FirstFailing}
+use Rattle.runs.proofs.Conditions.{none_failing, failing_behind}
 use Rattle.runs.specs.Jobs.{Narrows, Room, enter_asks}
 use Rattle.jobs.specs.declared.fault.EnterFault.{EnterFault}
 use Rattle.jobs.specs.declared.fault.EnterFault.TheVariants.{Sealed, NoSuchLine, BadStretch, NotReading, NotInside, TooManyPieces}
@@ -41,13 +42,16 @@ module _ (cells : List (Piece Reading)) (h : Held) (line from to : ℕ) (lower u
   abbrev s : State
   s = held_state cells h
 
+  abbrev asked : List Condition
+  asked = enter_asks s line from to lower upper
+
   abbrev Fails : EnterFault → Type 0
-  Fails e = FirstFailing (enter_asks s line from to lower upper) (Some (fault_number e))
+  Fails e = FirstFailing asked (Some (fault_number e))
 
   pub barred_fails : (e : EnterFault) → Barred h line from to (Err e) → Fails e
   barred_fails Sealed b = inl (λ f. clash (sym f ∙ b), refl)
-  barred_fails NoSuchLine b = inr (b.0, inl (λ l. omega (arith, b.1, length_lines cells h), refl))
-  barred_fails BadStretch b = inr (b.0, inr (omega (arith, b.1, length_lines cells h), inl (b.2, refl)))
+  barred_fails NoSuchLine b = failing_behind (take 1 asked) (drop 1 asked) (Some 2) (b.0, tt) (inl (λ l. omega (arith, b.1, length_lines cells h), refl))
+  barred_fails BadStretch b = failing_behind (take 2 asked) (drop 2 asked) (Some 3) (b.0, (omega (arith, b.1, length_lines cells h), tt)) (inl (b.2, refl))
   barred_fails NotReading b = absurd b
   barred_fails NotInside b = absurd b
   barred_fails TooManyPieces b = absurd b
@@ -57,7 +61,7 @@ module _ (cells : List (Piece Reading)) (h : Held) (line from to : ℕ) (lower u
     there = omega (arith, b.1, length_lines cells h)
 
     pub fails_4 : (Ends lower upper → ⊥) → Fails NotReading
-    fails_4 n = inr (b.0, inr (there, inr ((b.2, b.3), inl (n, refl))))
+    fails_4 n = failing_behind (take 3 asked) (drop 3 asked) (Some 4) (b.0, (there, ((b.2, b.3), tt))) (inl (n, refl))
 
     module _ (p : Reading) (r : Reads lower upper (Some p)) (ps : List (Piece Reading)) (is : get_or s.lines line [] ≡ ps) where
       -- the reading is inside what the line reads on the stretch
@@ -65,7 +69,8 @@ module _ (cells : List (Piece Reading)) (h : Held) (line from to : ℕ) (lower u
       Inside xs = (u : ℕ) → from ≤ u → u < to → Within p (reading_at xs u)
 
       pub fails_5 : (Inside ps → ⊥) → Fails NotInside
-      fails_5 n = inr (b.0, inr (there, inr ((b.2, b.3), inr (ends_of lower upper p r, inl (λ all. n (subst Inside is (all p r)), refl)))))
+      fails_5 n =
+          failing_behind (take 4 asked) (drop 4 asked) (Some 5) (b.0, (there, ((b.2, b.3), (ends_of lower upper p r, tt)))) (inl (λ all. n (subst Inside is (all p r)), refl))
 
       pub is_ready : Inside ps → Ready s line from to p
       is_ready i = record { unsealed = b.0; there = there; stretch = (b.2, b.3); narrows = subst Inside (sym is) i }
@@ -75,8 +80,14 @@ module _ (s : State) (line from to : ℕ) (lower upper : ℤ) (p : Reading) (r :
   narrow : Narrows s line from to lower upper
   narrow q t u a b = subst (λ z. Within z (readings_of s line u)) (one_reading lower upper p q r t) (ready.narrows u a b)
 
-  pub fails_6 : (Room s line from to lower upper → ⊥) → FirstFailing (enter_asks s line from to lower upper) (Some (fault_number TooManyPieces))
-  fails_6 n = inr (ready.unsealed, inr (ready.there, inr (ready.stretch, inr (ends_of lower upper p r, inr (narrow, inl (n, refl))))))
+  abbrev asks_of : List Condition
+  asks_of = enter_asks s line from to lower upper
 
-  pub all_pass : Room s line from to lower upper → FirstFailing (enter_asks s line from to lower upper) None
-  all_pass room = inr (ready.unsealed, inr (ready.there, inr (ready.stretch, inr (ends_of lower upper p r, inr (narrow, inr (room, refl))))))
+  first_five : AllHold (take 5 asks_of)
+  first_five = (ready.unsealed, (ready.there, (ready.stretch, (ends_of lower upper p r, (narrow, tt)))))
+
+  pub fails_6 : (Room s line from to lower upper → ⊥) → FirstFailing asks_of (Some (fault_number TooManyPieces))
+  fails_6 n = failing_behind (take 5 asks_of) (drop 5 asks_of) (Some 6) first_five (inl (n, refl))
+
+  pub all_pass : Room s line from to lower upper → FirstFailing asks_of None
+  all_pass room = failing_behind (take 5 asks_of) (drop 5 asks_of) None first_five (none_failing (drop 5 asks_of) (room, tt))
