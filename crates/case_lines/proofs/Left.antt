@@ -19,13 +19,13 @@ use Rattle.cases.specs.declared.call.Call.{Call}
 use Rattle.cases.specs.declared.call.Call.TheVariants.{Enter, Judge}
 use Rattle.cases.specs.declared.fault.CaseRefusal.{CaseRefusal}
 use Rattle.cases.specs.declared.field.Entry.{Entry}
-use Rattle.cases.specs.Headings.{Opened, Opens}
+use Rattle.cases.specs.Headings.{OpenedCase, Opens}
 use Rattle.cases.specs.Steps.{Sized, Stepped, Steps, call_item}
 use Rattle.lent.specs.declared.cells.Cells.{Cells}
 use Rattle.case_lines.specs.declared.fault.ListFault.{ListFault}
 use Rattle.case_lines.specs.declared.fault.ListFault.TheVariants.{Refused, NoMemory}
-use Rattle.case_lines.specs.Writes.{AddsSome}
-use Rattle.case_lines.specs.Calls.{Enters}
+use Rattle.case_lines.specs.Writes.{AppendsSome}
+use Rattle.case_lines.specs.Calls.{CarriesEntry}
 use Rattle.case_lines.specs.Leaves.{TickLeaves, FieldLeaves, enters, ticks, FieldsLeave, ended, refused, does, LinesLie, CarriedOn, CaseLeaves, carried, InMemory}
 
 pub same_twice : (a b c : Cells) → SameLoans a b → SameLoans b c → SameLoans a c
@@ -55,8 +55,8 @@ carried_twice a b c p q =
 
 module _ (rows : List Row) where
   module _ {E : Type 0} (r : Result (Unit {0}) E) (c : Call) (s z : State) where
-    pub entry_leaves : (before after : List ℕ) (k : ℕ) (e : Entry) (here : Contents) → c ≡ Enter e → AddsSome before r (Enters k e s z) after → OnOk r (FieldLeaves rows (call_item c) s z here here)
-    entry_leaves before after k e here is h = elim r as (λ r. AddsSome before r (Enters k e s z) after → OnOk r (FieldLeaves rows (call_item c) s z here here)) [ Ok u ↦ λ h. enters e h.1.reply (ap call_item is) h.1.turn refl | Err x ↦ λ h. tt ] h
+    pub entry_leaves : (before after : List ℕ) (k : ℕ) (e : Entry) (here : Contents) → c ≡ Enter e → AppendsSome before r (CarriesEntry k e s z) after → OnOk r (FieldLeaves rows (call_item c) s z here here)
+    entry_leaves before after k e here is h = elim r as (λ r. AppendsSome before r (CarriesEntry k e s z) after → OnOk r (FieldLeaves rows (call_item c) s z here here)) [ Ok u ↦ λ h. enters e h.1.reply (ap call_item is) h.1.turn refl | Err x ↦ λ h. tt ] h
 
     pub tick_leaves : (t : ℕ) (before after : Contents) → c ≡ Judge t → z ≡ s → TickLeaves rows s t before after → OnOk r (FieldLeaves rows (call_item c) s z before after)
     tick_leaves t before after is same h = elim r as (λ r. OnOk r (FieldLeaves rows (call_item c) s z before after)) [ Ok u ↦ ticks t (ap call_item is) same h | Err x ↦ tt ]
@@ -103,7 +103,7 @@ lines_lie asked before j z state behind on =
     }
 
 -- the whole case, from what its fields left
-pub case_left : (case : List ℕ) (pieces : List (Piece Reading)) (o : Opened) → Sized case (Ok tt) → Opens 1 [] case (Ok o) → (j z : Job) →
+pub case_left : (case : List ℕ) (pieces : List (Piece Reading)) (o : OpenedCase) → Sized case (Ok tt) → Opens 1 [] case (Ok o) → (j z : Job) →
     state_of j ≡ opened (line_count o.lines (length pieces)) → drop (64 * line_count o.lines (length pieces)) (cells_of j) ≡ drop (64 * line_count o.lines (length pieces)) pieces → CarriedOn j z →
     (r : Result (Unit {0}) ListFault) (before after : Contents) → InMemory r (FieldsLeave o.rows o.next (state_of j) o.rest (state_of z) before after) → InMemory r (CaseLeaves case pieces (cells_of z) before after)
 case_left case pieces o sized opens j z state behind on r before after h =

@@ -29,16 +29,16 @@ use Rattle.judge.specs.declared.fault.MarkFault.{MarkFault}
 use Rattle.judge.specs.declared.fault.MarkFault.TheVariants.{Judging, WantCells, MarkCells}
 use Rattle.judge.specs.declared.marking.Marking.{Marking}
 use Rattle.judge.specs.Faults.{judge_number, mark_number}
-use Rattle.judge.specs.Cells.{BeginsWith, RunsOut, Complete, CutShort, WantsComplete, WantsCut, MarksComplete, MarksCut}
+use Rattle.judge.specs.Cells.{BeginsWith, RunsOut, Complete, RowsRunOut, WantsComplete, WantsCut, MarksComplete, MarksCut}
 use Rattle.judge.specs.Answers.{RefusedCells}
 use Rattle.judge.proofs.Pinned.{row_lists_one}
 use Rattle.lent.specs.Holding.{Contents}
 use Rattle.cases.specs.declared.field.Entry.{Entry}
 use Rattle.cases.specs.Contents.{Item}
-use Rattle.cases.specs.Headings.{Opened}
+use Rattle.cases.specs.Headings.{OpenedCase}
 use Rattle.cases.specs.Steps.{Stepped}
 use Rattle.cases.proofs.OneReading.{one_opening, one_step}
-use Rattle.case_lines.specs.Leaves.{Judges, MarksIn, TickLeaves, no_truth, no_margin, marked, FieldLeaves, enters, ticks, FieldsLeave, ended, refused, does, LinesLie, too_long, no_heading, carried, OneLeaving}
+use Rattle.case_lines.specs.Leaves.{JudgedCells, MarkedIn, TickLeaves, no_truth, no_margin, marked, FieldLeaves, enters, ticks, FieldsLeave, ended, refused, does, LinesLie, too_long, no_heading, carried, OneLeaving}
 use Rattle.case_lines.proofs.OneListing.{entry_tick, same_entry, same_tick, sized_one}
 
 ok_err : {A E : Type 0} (x : A) (e : E) → ◌≡◌ {A = Result A E} (Ok x) (Err e) → ⊥
@@ -82,9 +82,9 @@ module _ (rows : List Row) (s : State) (t : ℕ) (K : Kind) {G : Type 0} (value 
       let n = length (all pss) in
       joined n a b (shown_one (worth K value) one (take n a) (take n b) (p.written ∙ sym q.written)) (p.behind ∙ sym q.behind)
 
-  cut_one : (x : Readings) (pss qss : List (List (Piece (Span K.Value)))) → CutShort K value rows x before a pss → CutShort K value rows x before b qss → a ≡ b
+  cut_one : (x : Readings) (pss qss : List (List (Piece (Span K.Value)))) → RowsRunOut K value rows x before a pss → RowsRunOut K value rows x before b qss → a ≡ b
   cut_one x pss qss p c =
-      let q = subst (CutShort K value rows x before b) (row_lists_one K rows x qss pss c.listed p.listed) c in
+      let q = subst (RowsRunOut K value rows x before b) (row_lists_one K rows x qss pss c.listed p.listed) c in
       shown_one (worth K value) one a b (p.beginning ∙ sym q.beginning)
 
   refused_one : (x : Readings) (f g : JudgeFault) → judge_number f ≡ judge_number g → RefusedCells K value rows x before a f → RefusedCells K value rows x before b g → a ≡ b
@@ -98,13 +98,13 @@ module _ (rows : List Row) (s : State) (t : ℕ) (K : Kind) {G : Type 0} (value 
   refused_one x RowCells LateTick e h k = absurd (omega (arith, e))
   refused_one x RowCells RowCells e h k = cut_one x h.0 k.0 h.1 k.1
 
-  judged_apart : (u : Range G) (f : JudgeFault) → Judges rows s t K value before a (Ok u) → Judges rows s t K value before b (Err f) → ⊥
+  judged_apart : (u : Range G) (f : JudgeFault) → JudgedCells rows s t K value before a (Ok u) → JudgedCells rows s t K value before b (Err f) → ⊥
   judged_apart u f h k = none_some (judge_number f) (one_failing (judge_asks K s rows t (length before) []) None (Some (judge_number f)) h.turn.0 k.turn)
 
-  judged_one : (u v : Range G) → Judges rows s t K value before a (Ok u) → Judges rows s t K value before b (Ok v) → a ≡ b
+  judged_one : (u v : Range G) → JudgedCells rows s t K value before a (Ok u) → JudgedCells rows s t K value before b (Ok v) → a ≡ b
   judged_one u v h k = complete_one (readings_of s) h.cells.0 k.cells.0 h.cells.1 k.cells.1
 
-  unjudged_one : (f g : JudgeFault) → Judges rows s t K value before a (Err f) → Judges rows s t K value before b (Err g) → a ≡ b
+  unjudged_one : (f g : JudgeFault) → JudgedCells rows s t K value before a (Err f) → JudgedCells rows s t K value before b (Err g) → a ≡ b
   unjudged_one f g h k =
       refused_one (readings_of s) f g (same_some (judge_number f) (judge_number g) (one_failing (judge_asks K s rows t (length before) []) (Some (judge_number f)) (Some (judge_number g)) h.turn k.turn)) h.cells k.cells
 
@@ -161,7 +161,7 @@ module _ (rows : List Row) (s : State) (t : ℕ) where
     ranges_done : (pss qss : List (List (Piece (Span truths.Value)))) → Complete truths truth_value rows (readings_of s) ranges a pss → Complete truths truth_value rows (readings_of s) ranges b qss → a ≡ b
     ranges_done pss qss h k = complete_one rows s t truths truth_value truth_range_one ranges a b (readings_of s) pss qss h k
 
-    by_told : (r q : Result (Marking Truth) MarkFault) → told r ≡ told q → MarksIn rows s t ranges a wants w marks m r → MarksIn rows s t ranges b wants v marks n q → (a ≡ b) × (w ≡ v) × (m ≡ n)
+    by_told : (r q : Result (Marking Truth) MarkFault) → told r ≡ told q → MarkedIn rows s t ranges a wants w marks m r → MarkedIn rows s t ranges b wants v marks n q → (a ≡ b) × (w ≡ v) × (m ≡ n)
     by_told (Ok x) (Ok y) e p q = let h = p.cells in let k = q.cells in (ranges_done h.0.0 k.0.0 h.0.1 k.0.1, wants_done h.1 k.1, marks_done x.marks y.marks h.2 k.2)
     by_told (Ok x) (Err g) e p q = absurd (none_some (mark_number g) e)
     by_told (Err f) (Ok y) e p q = absurd (none_some (mark_number f) (sym e))
@@ -178,13 +178,13 @@ module _ (rows : List Row) (s : State) (t : ℕ) where
     by_told (Err MarkCells) (Err WantCells) e p q = absurd (let d = same_some 11 10 e in omega (arith, d))
     by_told (Err MarkCells) (Err MarkCells) e p q = let h = p.cells in let k = q.cells in (ranges_done h.0.0 k.0.0 h.0.1 k.0.1, wants_done h.1 k.1, marks_short h.2 k.2)
 
-    marks_one : (r q : Result (Marking Truth) MarkFault) → MarksIn rows s t ranges a wants w marks m r → MarksIn rows s t ranges b wants v marks n q → (a ≡ b) × (w ≡ v) × (m ≡ n)
+    marks_one : (r q : Result (Marking Truth) MarkFault) → MarkedIn rows s t ranges a wants w marks m r → MarkedIn rows s t ranges b wants v marks n q → (a ≡ b) × (w ≡ v) × (m ≡ n)
     marks_one r q h k = by_told r q (one_failing asked (told r) (told q) (failing a w m r h) (failing b v n q k)) h k
       where
         asked : List Condition
         asked = judge_asks truths s rows t (length ranges) (mark_asks truths s rows t (length wants) (length marks))
 
-        failing : (a : List (Piece (Range Truth))) (w : List (Piece Bool)) (m : List Mark) (r : Result (Marking Truth) MarkFault) → MarksIn rows s t ranges a wants w marks m r → FirstFailing asked (told r)
+        failing : (a : List (Piece (Range Truth))) (w : List (Piece Bool)) (m : List Mark) (r : Result (Marking Truth) MarkFault) → MarkedIn rows s t ranges a wants w marks m r → FirstFailing asked (told r)
         failing a w m (Ok x) h = h.turn.0
         failing a w m (Err f) h = h.turn
 
@@ -207,7 +207,7 @@ module _ (rows : List Row) (s : State) (t : ℕ) where
       let same = judged_one rows s t truths truth_value truth_range_one before.truths y x u p l j in
       let gaps = judged_one rows s t margins margin_level margin_range_one before.margins a.margins b.margins q v k o in
       let one = marks_one x a.truths b.truths before.wants a.wants b.wants before.marks a.marks b.marks r z h
-      (subst (λ (c : List (Piece (Range Truth))). MarksIn rows s t c b.truths before.wants b.wants before.marks b.marks z) same g) in
+      (subst (λ (c : List (Piece (Range Truth))). MarkedIn rows s t c b.truths before.wants b.wants before.marks b.marks z) same g) in
       λ i. record { truths = one.0 i; margins = gaps i; wants = one.1 i; marks = one.2 i }
 
 module _ (rows : List Row) where
@@ -253,5 +253,5 @@ one_leaving case pieces p q before a b (carried o z s g l k) (no_heading y t h f
 one_leaving case pieces p q before a b (carried o z s g l k) (carried i y t h m j) =
     let same : i ≡ o = same_ok i o (one_opening 1 [] case (Ok i) (Ok o) h g) in
     let one = fields_one o.rows o.next (opened (line_count o.lines (length pieces))) o.rest z y before a b l
-    (subst (λ (x : Opened). FieldsLeave x.rows x.next (opened (line_count x.lines (length pieces))) x.rest y before b) same m) in
+    (subst (λ (x : OpenedCase). FieldsLeave x.rows x.next (opened (line_count x.lines (length pieces))) x.rest y before b) same m) in
     (one.1, (z.lines, k, subst (λ (x : State). LinesLie x.lines pieces q) (sym one.0) j))

@@ -10,20 +10,20 @@ use Rattle.meaning.specs.Outcomes.{outcome_at}
 use Rattle.meaning.proofs.Pinned.{lists_same}
 use Rattle.runs.specs.States.{State, opened, line_count, readings_of}
 use Rattle.runs.specs.Jobs.{enter}
-use Rattle.runs.specs.Calls.{judge_asks, mark_asks, JudgeTurn, Marking, MarkTurn}
+use Rattle.runs.specs.Calls.{judge_asks, mark_asks, JudgeTurn, MarkedVerdict, MarkTurn}
 use Rattle.runs.proofs.Conditions.{one_failing}
 use Rattle.runs.proofs.Unique.{job_one}
 use Rattle.lent.specs.Holding.{CellCounts}
 use Rattle.cases.specs.declared.fault.CaseRefusal.{CaseRefusal}
 use Rattle.cases.specs.declared.field.Entry.{Entry}
 use Rattle.cases.specs.Contents.{Item, entry, tick}
-use Rattle.cases.specs.Headings.{Opened}
+use Rattle.cases.specs.Headings.{OpenedCase}
 use Rattle.cases.specs.Steps.{Sized, Stepped}
 use Rattle.cases.proofs.OneReading.{one_opening, one_step}
 use Rattle.cases.proofs.OpenedRules.{heading_apart, same_heading}
 use Rattle.case_lines.specs.Lines.{refused_line, refusal_line, verdict_line, mark_lines, entry_text}
-use Rattle.case_lines.specs.Calls.{Enters}
-use Rattle.case_lines.specs.Listings.{Ticks, no_truth, no_margin, no_marks, verdict, Does, enters, ticks, Lists, ended, refused, does, too_long, no_heading, listed}
+use Rattle.case_lines.specs.Calls.{CarriesEntry}
+use Rattle.case_lines.specs.Listings.{Ticks, no_truth, no_margin, no_marks, verdict, Does, enters, ticks, ListsFields, ended, refused, does, too_long, no_heading, listed}
 use Rattle.case_lines.specs.Laws.{OneListing}
 
 apart : {A : Type 0} (x : A) (n : ℕ) → ◌≡◌ {A = Result A ℕ} (Ok x) (Err n) → ⊥
@@ -47,7 +47,7 @@ judge_one K s rows t c (Ok p) (Err n) h k = absurd (some_none n (one_failing (ju
 judge_one K s rows t c (Err n) (Ok q) h k = absurd (some_none n (one_failing (judge_asks K s rows t c []) None (Some n) k.0 h))
 judge_one K s rows t c (Err m) (Err n) h k = ap (λ (v : ℕ). Err v) (same_some m n (one_failing (judge_asks K s rows t c []) (Some m) (Some n) h k))
 
-mark_one : (K : Kind) (s : State) (rows : List Row) (t c w m : ℕ) (r q : Result (Marking K) ℕ) → MarkTurn K s rows t c w m r → MarkTurn K s rows t c w m q → r ≡ q
+mark_one : (K : Kind) (s : State) (rows : List Row) (t c w m : ℕ) (r q : Result (MarkedVerdict K) ℕ) → MarkTurn K s rows t c w m r → MarkTurn K s rows t c w m q → r ≡ q
 mark_one K s rows t c w m (Ok p) (Ok q) h k =
     let v = h.1 ∙ sym k.1 in
     let ms = lists_same {P = Marked K rows (readings_of s) t} p.marks q.marks h.2 k.2 in
@@ -56,7 +56,7 @@ mark_one K s rows t c w m (Ok p) (Err n) h k = absurd (some_none n (one_failing 
 mark_one K s rows t c w m (Err n) (Ok q) h k = absurd (some_none n (one_failing (judge_asks K s rows t c (mark_asks K s rows t w m)) None (Some n) k.0 h))
 mark_one K s rows t c w m (Err i) (Err j) h k = ap (λ (v : ℕ). Err v) (same_some i j (one_failing (judge_asks K s rows t c (mark_asks K s rows t w m)) (Some i) (Some j) h k))
 
-told : (t : ℕ) {p o : Span truths.Value} {q z : Span margins.Value} {x y : Marking truths} → p ≡ o → q ≡ z → x ≡ y → verdict_line t (outcome_at p) q.low.number q.high.number (length x.marks) ++ mark_lines x.marks ≡ verdict_line t (outcome_at o) z.low.number z.high.number (length y.marks) ++ mark_lines y.marks
+told : (t : ℕ) {p o : Span truths.Value} {q z : Span margins.Value} {x y : MarkedVerdict truths} → p ≡ o → q ≡ z → x ≡ y → verdict_line t (outcome_at p) q.low.number q.high.number (length x.marks) ++ mark_lines x.marks ≡ verdict_line t (outcome_at o) z.low.number z.high.number (length y.marks) ++ mark_lines y.marks
 told t e f g = λ i. verdict_line t (outcome_at (e i)) (f i).low.number (f i).high.number (length (g i).marks) ++ mark_lines (g i).marks
 
 pub entry_tick : (e : Entry) (t : ℕ) → entry e ≡ tick t → ⊥
@@ -100,20 +100,20 @@ module _ (cells : CellCounts) (rows : List Row) where
   ticks_one k t s v u (verdict xp xq xx xt xg xm xe) (no_marks yp yq yn yt yg ym ye) = absurd (apart xx yn (mark_one truths s rows t cells.truth_rows cells.wants cells.marks (Ok xx) (Err yn) xm ym))
   ticks_one k t s v u (verdict xp xq xx xt xg xm xe) (verdict yp yq yx yt yg ym ye) = xe ∙ told t (inner xp yp (judge_one truths s rows t cells.truth_rows (Ok xp) (Ok yp) xt yt)) (inner xq yq (judge_one margins s rows t cells.margin_rows (Ok xq) (Ok yq) xg yg)) (inner xx yx (mark_one truths s rows t cells.truth_rows cells.wants cells.marks (Ok xx) (Ok yx) xm ym)) ∙ sym ye
 
-  enters_one : (k : ℕ) (e : Entry) (s z y : State) (v u : List ℕ) → Enters k e s z v → Enters k e s y u → (v ≡ u) × (z ≡ y)
+  enters_one : (k : ℕ) (e : Entry) (s z y : State) (v u : List ℕ) → CarriesEntry k e s z v → CarriesEntry k e s y u → (v ≡ u) × (z ≡ y)
   enters_one k e s z y v u h g =
       let one = job_one s (enter e.line e.from e.to e.lower e.upper) h.reply g.reply z y h.turn g.turn in
       (h.prints ∙ ap (entry_text k) one.reply ∙ sym g.prints, one.end)
 
   -- a field does one thing
   does_one : (k : ℕ) (i : Item) (s z y : State) (v u : List ℕ) → Does cells rows k i s z v → Does cells rows k i s y u → (v ≡ u) × (z ≡ y)
-  does_one k i s z y v u (enters e p h) (enters f q g) = enters_one k e s z y v u h (subst (λ (x : Entry). Enters k x s y u) (same_entry f e (sym q ∙ p)) g)
+  does_one k i s z y v u (enters e p h) (enters f q g) = enters_one k e s z y v u h (subst (λ (x : Entry). CarriesEntry k x s y u) (same_entry f e (sym q ∙ p)) g)
   does_one k i s z y v u (enters e p h) (ticks t q g j) = absurd (entry_tick e t (sym p ∙ q))
   does_one k i s z y v u (ticks t p h j) (enters e q g) = absurd (entry_tick e t (sym q ∙ p))
   does_one k i s z y v u (ticks t p h j) (ticks r q g l) = (ticks_one k t s v u h (subst (λ (x : ℕ). Ticks cells rows k x s u) (same_tick r t (sym q ∙ p)) g), j ∙ sym l)
 
   -- and so do the fields one after the other
-  lists_one : (n : ℕ) (s : State) (bytes v u : List ℕ) → Lists cells rows n s bytes v → Lists cells rows n s bytes u → v ≡ u
+  lists_one : (n : ℕ) (s : State) (bytes v u : List ℕ) → ListsFields cells rows n s bytes v → ListsFields cells rows n s bytes u → v ≡ u
   lists_one n s bytes v u (ended p e) (ended q f) = e ∙ sym f
   lists_one n s bytes v u (ended p e) (refused x q f) = absurd (step_apart None x (one_step n bytes (Ok None) (Err x) p q))
   lists_one n s bytes v u (ended p e) (does x q d l f) = absurd (none_some x (one_step n bytes (Ok None) (Ok (Some x)) p q))
@@ -125,13 +125,13 @@ module _ (cells : CellCounts) (rows : List Row) where
   lists_one n s bytes v u (does {after = z} {first = i} {more = j} x p d l e) (does {after = z'} {first = i'} {more = j'} y q d' l' f) =
       let same = same_step y x (one_step n bytes (Ok (Some y)) (Ok (Some x)) q p) in
       let one = does_one x.field x.item s z z' i i' d (subst (λ (o : Stepped). Does cells rows o.field o.item s z' i') same d') in
-      let rest = lists_one x.next z x.rest j j' l (subst (λ (y : State). Lists cells rows x.next y x.rest j') (sym one.1) (subst (λ (o : Stepped). Lists cells rows o.next z' o.rest j') same l')) in
+      let rest = lists_one x.next z x.rest j j' l (subst (λ (y : State). ListsFields cells rows x.next y x.rest j') (sym one.1) (subst (λ (o : Stepped). ListsFields cells rows o.next z' o.rest j') same l')) in
       e ∙ (λ o. one.0 o ++ rest o) ∙ sym f
 
 pub sized_one : (case : List ℕ) (e : CaseRefusal) → Sized case (Ok tt) → Sized case (Err e) → ⊥
 sized_one case e h g = omega (arith, h, g.0)
 
-same_fault : (x y : CaseRefusal) → ◌≡◌ {A = Result Opened CaseRefusal} (Err x) (Err y) → x ≡ y
+same_fault : (x y : CaseRefusal) → ◌≡◌ {A = Result OpenedCase CaseRefusal} (Err x) (Err y) → x ≡ y
 same_fault x y h = cc
 
 pub one_listing : OneListing
@@ -146,4 +146,4 @@ one_listing lent case v u (listed o p g l) (no_heading y q h f) = absurd (headin
 one_listing lent case v u (listed o p g l) (listed i q h k) =
     let same = same_heading i o (one_opening 1 [] case (Ok i) (Ok o) h g) in
     lists_one lent.cells o.rows o.next (opened (line_count o.lines lent.pieces)) o.rest v u l
-    (subst (λ (x : Opened). Lists lent.cells x.rows x.next (opened (line_count x.lines lent.pieces)) x.rest u) same k)
+    (subst (λ (x : OpenedCase). ListsFields lent.cells x.rows x.next (opened (line_count x.lines lent.pieces)) x.rest u) same k)

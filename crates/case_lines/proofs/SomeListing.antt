@@ -7,7 +7,7 @@ use Rattle.grades.specs.Margins.{margins}
 use Rattle.grades.specs.Lawful.{truths_lawful, margins_lawful}
 use Rattle.runs.specs.Families.{truth_and_margin}
 use Rattle.runs.specs.States.{State, opened, line_count}
-use Rattle.runs.specs.Calls.{Table, JudgeTurn, Marking, MarkTurn}
+use Rattle.runs.specs.Calls.{RuleRows, JudgeTurn, MarkedVerdict, MarkTurn}
 use Rattle.runs.specs.Jobs.{enter}
 use Rattle.runs.specs.Runs.{on_job, event}
 use Rattle.runs.proofs.Settings.{EndsAt}
@@ -17,24 +17,24 @@ use Rattle.lent.specs.Holding.{CellCounts}
 use Rattle.cases.specs.declared.fault.CaseRefusal.{CaseRefusal}
 use Rattle.cases.specs.declared.fault.CaseFault.TheVariants.{TooLong}
 use Rattle.cases.specs.Contents.{Item, name, rule, entry, tick}
-use Rattle.cases.specs.Orders.{Follows}
-use Rattle.cases.specs.Headings.{refusal, Opened, Opens}
+use Rattle.cases.specs.Orders.{MayFollow}
+use Rattle.cases.specs.Headings.{refusal, OpenedCase, Opens}
 use Rattle.cases.proofs.OpenedRules.{opened_sound}
 use Rattle.cases.proofs.SomeStep.{Found, ends, refuses, goes, found}
 use Rattle.case_lines.specs.Lines.{refused_line, refusal_line, entry_text}
-use Rattle.case_lines.specs.Listings.{Ticks, no_truth, no_margin, no_marks, verdict, Does, enters, ticks, Lists, ended, refused, does, Lent, Listing, too_long, no_heading, listed}
+use Rattle.case_lines.specs.Listings.{Ticks, no_truth, no_margin, no_marks, verdict, Does, enters, ticks, ListsFields, ended, refused, does, LentCells, Listing, too_long, no_heading, listed}
 use Rattle.case_lines.specs.Laws.{SomeListing}
 
 -- nothing is known past the last tick that an entry may name
 abbrev Ended : State → Type 0
 Ended s = EndsAt 1000000001 s
 
-module _ (cells : CellCounts) (table : Table) where
+module _ (cells : CellCounts) (table : RuleRows) where
   module _ (k t : ℕ) (s : State) (late : Ended s) where
     abbrev Told : Type 0
     Told = (text : List ℕ) × Ticks cells table.rows k t s text
 
-    marked : (p : Span truths.Value) (q : Span margins.Value) → JudgeTurn truths s table.rows t cells.truth_rows (Ok p) → JudgeTurn margins s table.rows t cells.margin_rows (Ok q) → (r : Result (Marking truths) ℕ) × MarkTurn truths s table.rows t cells.truth_rows cells.wants cells.marks r → Told
+    marked : (p : Span truths.Value) (q : Span margins.Value) → JudgeTurn truths s table.rows t cells.truth_rows (Ok p) → JudgeTurn margins s table.rows t cells.margin_rows (Ok q) → (r : Result (MarkedVerdict truths) ℕ) × MarkTurn truths s table.rows t cells.truth_rows cells.wants cells.marks r → Told
     marked p q a b (Err n, h) = (refused_line n k, no_marks p q n a b h refl)
     marked p q a b (Ok m, h) = (_, verdict p q m a b h refl)
 
@@ -52,7 +52,7 @@ module _ (cells : CellCounts) (table : Table) where
     pub done : Does cells table.rows k i s after text
     pub late : Ended after
 
-  done : (k : ℕ) (i : Item) (s : State) → Ended s → Follows i → Done k i s
+  done : (k : ℕ) (i : Item) (s : State) → Ended s → MayFollow i → Done k i s
   done k (name w) s late f = absurd f
   done k (rule w) s late f = absurd f
   done k (entry e) s late f =
@@ -67,7 +67,7 @@ module _ (cells : CellCounts) (table : Table) where
       let g = told k t s late (judge_goes truths_lawful 1000000001 s late table t cells.truth_rows) in
       record { after = s; text = g.0; done = ticks t refl g.1 refl; late = late }
 
-  lists : (m n : ℕ) (s : State) (bytes : List ℕ) → length bytes ≤ m → Ended s → Found n bytes → (text : List ℕ) × Lists cells table.rows n s bytes text
+  lists : (m n : ℕ) (s : State) (bytes : List ℕ) → length bytes ≤ m → Ended s → Found n bytes → (text : List ℕ) × ListsFields cells table.rows n s bytes text
   lists m n s bytes le late (ends p) = ([], ended p refl)
   lists m n s bytes le late (refuses e p) = (refusal_line e, refused e p refl)
   lists zero n s bytes le late (goes i rest f lt p) = absurd (omega arith)
@@ -76,8 +76,8 @@ module _ (cells : CellCounts) (table : Table) where
       let more = lists m (n + 1) d.after rest (omega arith) d.late (found (n + 1) rest) in
       (d.text ++ more.0, does _ p d.done more.1 refl)
 
-module _ (lent : Lent) (case : List ℕ) where
-  opens : length case ≤ 16384 → (r : Result Opened CaseRefusal) → Opens 1 [] case r → (text : List ℕ) × Listing lent case text
+module _ (lent : LentCells) (case : List ℕ) where
+  opens : length case ≤ 16384 → (r : Result OpenedCase CaseRefusal) → Opens 1 [] case r → (text : List ℕ) × Listing lent case text
   opens le (Err e) h = (refusal_line e, no_heading e le h refl)
   opens le (Ok o) h =
       let lines : ℕ = line_count o.lines lent.pieces in

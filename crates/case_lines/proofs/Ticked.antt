@@ -6,12 +6,12 @@ use Rattle.rules.specs.declared.row.Row.{Row}
 use Rattle.meaning.specs.declared.mark.Mark.{Mark}
 use Rattle.meaning.specs.declared.outcome.Outcome.{Outcome}
 use Rattle.runs.specs.States.{State}
-use Rattle.runs.specs.Calls.{Marking, MarkTurn}
+use Rattle.runs.specs.Calls.{MarkedVerdict, MarkTurn}
 use Rattle.case_lines.specs.Lines.{verdict_line, mark_lines}
-use Rattle.case_lines.specs.Writes.{Adds}
+use Rattle.case_lines.specs.Writes.{Appends}
 
 -- marking with as many row cells, counted another way
-pub recounted : (K : Kind) (s : State) (rows : List Row) (t w m : ℕ) {a b : ℕ} (r : Result (Marking K) ℕ) → a ≡ b → MarkTurn K s rows t a w m r → MarkTurn K s rows t b w m r
+pub recounted : (K : Kind) (s : State) (rows : List Row) (t w m : ℕ) {a b : ℕ} (r : Result (MarkedVerdict K) ℕ) → a ≡ b → MarkTurn K s rows t a w m r → MarkTurn K s rows t b w m r
 recounted K s rows t w m r kept turn = subst (λ (i : ℕ). MarkTurn K s rows t i w m r) kept turn
 
 -- a line that says how many marks follow, and their lines
@@ -19,7 +19,7 @@ pub counted : (line : ℕ → List ℕ) (n : ℕ) (ms : List Mark) → n ≤ len
 counted line n ms fits = ap (λ (i : ℕ). line i ++ mark_lines (take n ms)) (length-take-le n ms fits)
 
 -- a line and the lines behind it
-pub behind : {E : Type 0} (before between after line more : List ℕ) (r : Result (Unit {0}) E) → between ≡ before ++ line → Adds between r more after → Adds before r (line ++ more) after
+pub behind : {E : Type 0} (before between after line more : List ℕ) (r : Result (Unit {0}) E) → between ≡ before ++ line → Appends between r more after → Appends before r (line ++ more) after
 behind before between after line more (Ok u) e h = h ∙ ap (λ (v : List ℕ). v ++ more) e ∙ append_assoc before line more
 behind before between after line more (Err x) e h = tt
 

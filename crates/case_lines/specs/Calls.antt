@@ -13,7 +13,7 @@ use Rattle.case_lines.specs.declared.ticking.Told.{Told}
 use Rattle.case_lines.specs.Lines.{entry_text, refused_line, verdict_line, mark_lines}
 
 -- field k is an entry, which is entered
-pub record Enters (k : ℕ) (e : Entry) (s after : State) (text : List ℕ) : Type 0 where
+pub record CarriesEntry (k : ℕ) (e : Entry) (s after : State) (text : List ℕ) : Type 0 where
   pub reply : Result JobAnswer ℕ
   pub turn : JobTurn s (enter e.line e.from e.to e.lower e.upper) reply after
   pub prints : text ≡ entry_text k reply

@@ -24,7 +24,7 @@ use Rattle.lent.specs.Holding.{Contents}
 use Rattle.cases.specs.declared.fault.CaseRefusal.{CaseRefusal}
 use Rattle.cases.specs.declared.field.Entry.{Entry}
 use Rattle.cases.specs.Contents.{Item, entry, tick}
-use Rattle.cases.specs.Headings.{Opened, Opens}
+use Rattle.cases.specs.Headings.{OpenedCase, Opens}
 use Rattle.cases.specs.Steps.{Sized, Stepped, Steps}
 use Rattle.case_lines.specs.declared.fault.ListFault.{ListFault}
 use Rattle.case_lines.specs.declared.fault.ListFault.TheVariants.{Refused, NoMemory}
@@ -32,20 +32,20 @@ use Rattle.case_lines.specs.declared.fault.ListFault.TheVariants.{Refused, NoMem
 module _ (rows : List Row) where
   module _ (s : State) (t : ℕ) where
     -- the rule is judged in one grade at a tick: the answer, and the row cells before and after
-    pub record Judges (K : Kind) {G : Type 0} (value : G → K.Value) (before after : List (Piece (Range G))) (r : Result (Range G) JudgeFault) : Type 0 where
+    pub record JudgedCells (K : Kind) {G : Type 0} (value : G → K.Value) (before after : List (Piece (Range G))) (r : Result (Range G) JudgeFault) : Type 0 where
       pub turn : JudgeTurn K s rows t (length before) (judge_reply K value r)
       pub cells : JudgeCells K value rows (readings_of s) before after r
 
     -- the rule is marked in truth at a tick: the row cells, the want cells and the mark cells before and after
-    pub record MarksIn (ranges ranges' : List (Piece (Range Truth))) (wants wants' : List (Piece Bool)) (marks marks' : List Mark) (r : Result (Marking Truth) MarkFault) : Type 0 where
+    pub record MarkedIn (ranges ranges' : List (Piece (Range Truth))) (wants wants' : List (Piece Bool)) (marks marks' : List Mark) (r : Result (Marking Truth) MarkFault) : Type 0 where
       pub turn : MarkTurn truths s rows t (length ranges) (length wants) (length marks) (mark_reply truths truth_value marks' r)
       pub cells : MarkedCells truths truth_value rows (readings_of s) t ranges ranges' wants wants' marks marks' r
 
     -- a tick: judged in truth, judged in margin and marked in truth, up to the first refusal; what comes behind that is not touched
     pub data TickLeaves (before after : Contents) : Type 0 where
-      no_truth : (f : JudgeFault) → Judges truths truth_value before.truths after.truths (Err f) → after ≡ record before { truths = after.truths } → TickLeaves before after
-      no_margin : (p : Range Truth) (f : JudgeFault) → Judges truths truth_value before.truths after.truths (Ok p) → Judges margins margin_level before.margins after.margins (Err f) → after ≡ record before { truths = after.truths; margins = after.margins } → TickLeaves before after
-      marked : (p : Range Truth) (q : Range Margin) (judged : List (Piece (Range Truth))) (r : Result (Marking Truth) MarkFault) → Judges truths truth_value before.truths judged (Ok p) → Judges margins margin_level before.margins after.margins (Ok q) → MarksIn judged after.truths before.wants after.wants before.marks after.marks r → TickLeaves before after
+      no_truth : (f : JudgeFault) → JudgedCells truths truth_value before.truths after.truths (Err f) → after ≡ record before { truths = after.truths } → TickLeaves before after
+      no_margin : (p : Range Truth) (f : JudgeFault) → JudgedCells truths truth_value before.truths after.truths (Ok p) → JudgedCells margins margin_level before.margins after.margins (Err f) → after ≡ record before { truths = after.truths; margins = after.margins } → TickLeaves before after
+      marked : (p : Range Truth) (q : Range Margin) (judged : List (Piece (Range Truth))) (r : Result (Marking Truth) MarkFault) → JudgedCells truths truth_value before.truths judged (Ok p) → JudgedCells margins margin_level before.margins after.margins (Ok q) → MarkedIn judged after.truths before.wants after.wants before.marks after.marks r → TickLeaves before after
 
   -- a field: an entry touches none of these cells, and a tick leaves the job as it is
   pub data FieldLeaves (i : Item) (s z : State) (before after : Contents) : Type 0 where
@@ -72,7 +72,7 @@ pub record CarriedOn (before after : Job) : Type 0 where
 pub data CaseLeaves (case : List ℕ) (pieces pieces' : List (Piece Reading)) (before after : Contents) : Type 0 where
   too_long : (e : CaseRefusal) → Sized case (Err e) → pieces' ≡ pieces → after ≡ before → CaseLeaves case pieces pieces' before after
   no_heading : (e : CaseRefusal) → Sized case (Ok tt) → Opens 1 [] case (Err e) → pieces' ≡ pieces → after ≡ before → CaseLeaves case pieces pieces' before after
-  carried : (o : Opened) (z : State) → Sized case (Ok tt) → Opens 1 [] case (Ok o) → FieldsLeave o.rows o.next (opened (line_count o.lines (length pieces))) o.rest z before after → LinesLie z.lines pieces pieces' → CaseLeaves case pieces pieces' before after
+  carried : (o : OpenedCase) (z : State) → Sized case (Ok tt) → Opens 1 [] case (Ok o) → FieldsLeave o.rows o.next (opened (line_count o.lines (length pieces))) o.rest z before after → LinesLie z.lines pieces pieces' → CaseLeaves case pieces pieces' before after
 
 -- unless memory ran out
 abbrev pub InMemory : Result (Unit {0}) ListFault → Type 0 → Type 0

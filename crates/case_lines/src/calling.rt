@@ -3,8 +3,8 @@ ghost use Rattle.std.specs.Prelude.{string_bytes};
 ghost use Rattle.runs.specs.Jobs.{JobTurn, enter};
 ghost use Rattle.jobs.specs.Faults.{enter_reply};
 ghost use Rattle.jobs.specs.Jobs.{state_of, SameLoan};
-ghost use Rattle.case_lines.specs.Writes.{AddsSome};
-ghost use Rattle.case_lines.specs.Calls.{Enters};
+ghost use Rattle.case_lines.specs.Writes.{AppendsSome};
+ghost use Rattle.case_lines.specs.Calls.{CarriesEntry};
 ghost use Rattle.case_lines.specs.Leaves.{CarriedOn};
 
 use crate::writing::write_refused;
@@ -19,7 +19,7 @@ pub(crate) fn write_entry<'a>(
     field: usize,
     entry: Entry,
 ) -> Result<(), AllocError>
-    ensures prints { AddsSome (string_bytes text.old) result (Enters field entry (state_of job.old) (state_of job.new)) (string_bytes text.new) }
+    ensures prints { AppendsSome (string_bytes text.old) result (CarriesEntry field entry (state_of job.old) (state_of job.new)) (string_bytes text.new) }
     ensures pieces { CarriedOn job.old job.new }
     ensures loan { SameLoan job.old job.new }
 {

@@ -4,9 +4,9 @@ ghost use Rattle.rules.specs.Texts.{table_of};
 ghost use Rattle.jobs.specs.Jobs.{state_of, SameLoan};
 ghost use Rattle.cases.specs.Readers.{left_of, next_of};
 ghost use Rattle.cases.specs.Steps.{call_item};
-ghost use Rattle.case_lines.specs.Writes.{AddsSome, AddsClosed};
+ghost use Rattle.case_lines.specs.Writes.{AppendsSome, AppendsClosed};
 ghost use Rattle.lent.specs.Holding.{contents, counts, SameLoans};
-ghost use Rattle.case_lines.specs.Listings.{Does, Lists, Listing, lent_cells};
+ghost use Rattle.case_lines.specs.Listings.{Does, ListsFields, Listing, lent_cells};
 ghost use Rattle.case_lines.specs.Leaves.{FieldLeaves, FieldsLeave, CaseLeaves, CarriedOn, InMemory};
 
 use crate::calling::write_entry;
@@ -32,7 +32,7 @@ fn write_step<'a>(
     step: Step,
     cells: &mut Cells<'_>,
 ) -> Result<(), AllocError>
-    ensures does { AddsSome (string_bytes text.old) result (Does (counts cells.old) (table_of rule.now) step.field (call_item step.call) (state_of job.old) (state_of job.new)) (string_bytes text.new) }
+    ensures does { AppendsSome (string_bytes text.old) result (Does (counts cells.old) (table_of rule.now) step.field (call_item step.call) (state_of job.old) (state_of job.new)) (string_bytes text.new) }
     ensures kept { counts cells.new ≡ counts cells.old }
     ensures leaves { OnOk result (FieldLeaves (table_of rule.now) (call_item step.call) (state_of job.old) (state_of job.new) (contents cells.old) (contents cells.new)) }
     ensures pieces { CarriedOn job.old job.new }
@@ -53,7 +53,7 @@ fn write_steps<'a, 'b>(
     rule: &Rule,
     cells: &mut Cells<'_>,
 ) -> Result<(), ListFault>
-    ensures prints { AddsClosed (string_bytes text.old) result (Lists (counts cells.old) (table_of rule.now) (next_of reader.old) (state_of job.old) (left_of reader.old)) (string_bytes text.new) }
+    ensures prints { AppendsClosed (string_bytes text.old) result (ListsFields (counts cells.old) (table_of rule.now) (next_of reader.old) (state_of job.old) (left_of reader.old)) (string_bytes text.new) }
     ensures leaves { InMemory result (FieldsLeave (table_of rule.now) (next_of reader.old) (state_of job.old) (left_of reader.old) (state_of job.new) (contents cells.old) (contents cells.new)) }
     ensures pieces { CarriedOn job.old job.new }
     ensures loan { SameLoan job.old job.new }
@@ -73,7 +73,7 @@ fn write_case(
     pieces: &mut [Piece<Reading>],
     cells: &mut Cells<'_>,
 ) -> Result<(), ListFault>
-    ensures prints { AddsClosed (string_bytes text.old) result (Listing (record { pieces = length pieces.old; cells = counts cells.old }) case.now) (string_bytes text.new) }
+    ensures prints { AppendsClosed (string_bytes text.old) result (Listing (record { pieces = length pieces.old; cells = counts cells.old }) case.now) (string_bytes text.new) }
     ensures leaves { InMemory result (CaseLeaves case.now pieces.old pieces.new (contents cells.old) (contents cells.new)) }
     ensures kept { counts cells.new ≡ counts cells.old }
     ensures loans { SameLoans cells.old cells.new }

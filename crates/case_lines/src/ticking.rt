@@ -6,7 +6,7 @@ ghost use Rattle.grades.specs.Truths.{truths as truth_kind};
 ghost use Rattle.grades.specs.Worth.{worth, truth_value};
 ghost use Rattle.meaning.specs.Outcomes.{outcome_at};
 ghost use Rattle.case_lines.specs.Lines.{verdict_line, mark_lines};
-ghost use Rattle.case_lines.specs.Writes.{Adds, AddsSome};
+ghost use Rattle.case_lines.specs.Writes.{Appends, AppendsSome};
 ghost use Rattle.case_lines.specs.Calls.{told_text};
 ghost use Rattle.lent.specs.Holding.{contents, counts, SameLoans};
 ghost use Rattle.case_lines.specs.Listings.{Ticks};
@@ -56,7 +56,7 @@ fn tell<'j>(cells: &mut Cells<'_>, job: &Job<'j>, rule: &Rule, tick: u32) -> Res
 // The verdict's line, and a line for each of the marks, which lie in the mark cells.
 fn write_told(text: &mut String, tick: u32, told: Told, cells: &Cells<'_>) -> Result<(), AllocError>
     requires { told.marks ≤ length cells.now.marks.now }
-    ensures { Adds (string_bytes text.old) result (verdict_line tick (outcome_at (worth truth_kind truth_value told.verdict)) told.margin.lower.number told.margin.upper.number told.marks ++ mark_lines (take told.marks cells.now.marks.now)) (string_bytes text.new) }
+    ensures { Appends (string_bytes text.old) result (verdict_line tick (outcome_at (worth truth_kind truth_value told.verdict)) told.margin.lower.number told.margin.upper.number told.marks ++ mark_lines (take told.marks cells.now.marks.now)) (string_bytes text.new) }
 {
     let outcome = OutcomeText(Outcome::of(told.verdict));
     let lower = told.margin.lower.number();
@@ -75,7 +75,7 @@ pub(crate) fn write_tick<'a>(
     tick: u32,
     cells: &mut Cells<'_>,
 ) -> Result<(), AllocError>
-    ensures prints { AddsSome (string_bytes text.old) result (Ticks (counts cells.old) (table_of rule.now) field tick (state_of job.now)) (string_bytes text.new) }
+    ensures prints { AppendsSome (string_bytes text.old) result (Ticks (counts cells.old) (table_of rule.now) field tick (state_of job.now)) (string_bytes text.new) }
     ensures kept { counts cells.new ≡ counts cells.old }
     ensures leaves { TickLeaves (table_of rule.now) (state_of job.now) tick (contents cells.old) (contents cells.new) }
     ensures loans { SameLoans cells.old cells.new }

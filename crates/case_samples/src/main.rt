@@ -2,7 +2,7 @@
 #![tactic(auto)]
 
 ghost use Rattle.std.specs.Prelude.{IfOk, string_bytes};
-ghost use Rattle.case_samples.specs.Samples.{Listed, FaultShown, Shown};
+ghost use Rattle.case_samples.specs.Samples.{SampleListed, FaultShown, Shown};
 
 use case_lines::cells::{MARKS, PIECES, ROWS, WANTS};
 use case_lines::listing::list_case;
@@ -22,7 +22,7 @@ const SAMPLES: [&str; 5] = [
 
 // The listing of a case.
 fn list(case: &[u8], heap: Global) -> Result<String, AllocError>
-    ensures { IfOk result (λ shown. Listed case.now (string_bytes shown)) }
+    ensures { IfOk result (λ shown. SampleListed case.now (string_bytes shown)) }
 {
     // A program's cells are arrays of its own, handed on as slices.
     let mut pieces = [blank_piece(); PIECES];

@@ -7,9 +7,10 @@ use Rattle.std.proofs.lemmas.List.Elements.{All-from_recursion}
 use Rattle.std.proofs.lemmas.List.Splits.{slice_split_none, slice_split_at, length-slice_split}
 use Rattle.std.proofs.lemmas.List.{take-append-drop, drop_more, get_or-take, length-take-le, take_rest}
 use Rattle.std.proofs.lemmas.Bool.{ne_eqb}
-use Rattle.case_text.specs.Pieces.{pieces, Without, Cut}
+use Rattle.tokens.specs.Bytes.{Without}
+use Rattle.case_text.specs.Pieces.{pieces, CutAt}
 
-pub cut_found : (c : ℕ) (bytes : List ℕ) (r : Option ℕ) (at : ℕ) → r ≡ Some at → MatchOption r (AllWithin (λ b. b ≢ c) bytes 0 (length bytes)) (λ i. (i < length bytes) × HoldsAt (λ b. b ≡ c) bytes i × AllWithin (λ b. b ≢ c) bytes 0 i) → Cut c bytes (take at bytes) (take (length bytes - (at + 1)) (drop (at + 1) bytes))
+pub cut_found : (c : ℕ) (bytes : List ℕ) (r : Option ℕ) (at : ℕ) → r ≡ Some at → MatchOption r (AllWithin (λ b. b ≢ c) bytes 0 (length bytes)) (λ i. (i < length bytes) × HoldsAt (λ b. b ≡ c) bytes i × AllWithin (λ b. b ≢ c) bytes 0 i) → CutAt c bytes (take at bytes) (take (length bytes - (at + 1)) (drop (at + 1) bytes))
 cut_found c bytes r at is first =
     let f = rw is at first in
     record {
@@ -29,7 +30,7 @@ one_cut c (a ∷ f) (b ∷ g) r s x y e =
     let more = one_cut c f g r s x.1 y.1 (tail-eq_of_cons-eq e) in
     (λ i. head-eq_of_cons-eq e i ∷ more.0 i, more.1)
 
-pub same_cut : (c : ℕ) (whole f g r s : List ℕ) → Cut c whole f r → Cut c whole g s → (f ≡ g) × (r ≡ s)
+pub same_cut : (c : ℕ) (whole f g r s : List ℕ) → CutAt c whole f r → CutAt c whole g s → (f ≡ g) × (r ≡ s)
 same_cut c whole f g r s x y = one_cut c f g r s x.clean y.clean (sym x.put ∙ y.put)
 
 -- the pieces, cut by cut
@@ -39,7 +40,7 @@ others c bs h = All-from_recursion _ bs (All-weaker (λ b. b ≢ c) (λ b. (b ==
 pub pieces_one : (c : ℕ) (bs : List ℕ) → Without c bs → pieces c bs ≡ bs ∷ []
 pieces_one c bs h = slice_split_none (λ b. b == c) bs (others c bs h)
 
-pub pieces_cut : (c : ℕ) (whole f r : List ℕ) → Cut c whole f r → pieces c whole ≡ f ∷ pieces c r
+pub pieces_cut : (c : ℕ) (whole f r : List ℕ) → CutAt c whole f r → pieces c whole ≡ f ∷ pieces c r
 pieces_cut c whole f r x = ap (pieces c) x.put ∙ slice_split_at (λ b. b == c) f c r (others c f x.clean) (eq-eqb c c refl)
 
 pub pieces_some : (c : ℕ) (bs : List ℕ) → 0 < length (pieces c bs)

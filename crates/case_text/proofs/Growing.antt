@@ -11,9 +11,9 @@ use Rattle.case_text.specs.declared.fault.PackFault.TheVariants.{BadLine, NoMemo
 use Rattle.case_text.specs.Pieces.{lines_of}
 use Rattle.case_text.specs.Sayings.{LineSays, Bad, named, names_of, LinesSay}
 use Rattle.case_text.specs.Sayings as say
-use Rattle.case_text.specs.Packs.{ReadsBack, Packed, Stops, Faulted}
+use Rattle.case_text.specs.Packs.{ReadsBack, Packed, StopsAtLine, Faulted}
 use Rattle.case_text.specs.Packs as back
-use Rattle.case_text.specs.Parts.{Taken, passed, took, LineRefused}
+use Rattle.case_text.specs.Parts.{LineTaken, passed, took, LineRefused}
 
 -- lines behind lines
 say_more : {names lines more : List (List ℕ)} {items rest : List Item} → LinesSay names lines items → LinesSay (names ++ names_of items) more rest → LinesSay names (lines ++ more) (items ++ rest)
@@ -67,7 +67,7 @@ pub record Held (before names : List (List ℕ)) (bytes : List ℕ) : Type 0 whe
 pub none_held : {names : List (List ℕ)} {bytes : List ℕ} → names ≡ [] → bytes ≡ [] → Held [] names bytes
 none_held e f = record { items = []; said = say.nothing refl refl; kept = e; back = back.nothing f refl }
 
-pub one_more : {before names after : List (List ℕ)} {bytes line more : List ℕ} → Held before names bytes → Taken names bytes line after more → Held (before ++ (line ∷ [])) after more
+pub one_more : {before names after : List (List ℕ)} {bytes line more : List ℕ} → Held before names bytes → LineTaken names bytes line after more → Held (before ++ (line ∷ [])) after more
 one_more {before} {names} {after} {bytes} {line} {more} h (passed s e f) = record {
   items = h.items;
   said = subst (LinesSay [] (before ++ (line ∷ []))) (append-nil h.items) (say_more h.said (say.silent refl s (say.nothing refl refl)));
@@ -88,7 +88,7 @@ next_line lines n i line there is =
     let same = is ∙ get_or-enumerate_from 0 lines n (i, line) here in
     (here, omega (arith, ap (λ (p : ℕ × List ℕ). p.0) same), ap (λ (p : ℕ × List ℕ). p.1) same)
 
-pub gone_on : (lines : List (List ℕ)) (n : ℕ) (line : List ℕ) {names after : List (List ℕ)} {bytes grown : List ℕ} → n < length lines → line ≡ get_or lines n line → Held (take n lines) names bytes → Taken names bytes line after grown → Held (take (n + 1) lines) after grown
+pub gone_on : (lines : List (List ℕ)) (n : ℕ) (line : List ℕ) {names after : List (List ℕ)} {bytes grown : List ℕ} → n < length lines → line ≡ get_or lines n line → Held (take n lines) names bytes → LineTaken names bytes line after grown → Held (take (n + 1) lines) after grown
 gone_on lines n line {names} {after} {bytes} {grown} there is h t =
     subst (λ (v : List (List ℕ)). Held v after grown) (ap (λ (l : List ℕ). take n lines ++ (l ∷ [])) is ∙ sym (take_more lines n line there)) (one_more h t)
 

@@ -4,8 +4,9 @@ use mathlib.Core.List.{head-eq_of_cons-eq}
 use Rattle.cases.specs.declared.field.Entry.{Entry}
 use Rattle.cases.specs.declared.field.Content.{Content}
 use Rattle.cases.specs.Contents.{Item, name, rule, entry, tick}
-use Rattle.case_text.specs.Pieces.{Without, Cut}
-use Rattle.case_text.specs.Words.{LineName, Whole, Enters}
+use Rattle.tokens.specs.Bytes.{Without}
+use Rattle.case_text.specs.Pieces.{CutAt}
+use Rattle.case_text.specs.Words.{LineName, WholeNumber, WordsEnter}
 use Rattle.case_text.specs.Sayings.{LineSays, a_name, a_rule, an_entry, a_tick, SaysNone}
 use Rattle.case_text.specs.Parts.{ContentOf, NameContent, RuleContent, EntryContent, TickContent, FitsField}
 use Rattle.case_text.proofs.Cutting.{same_cut}
@@ -25,10 +26,10 @@ plain_tick = (λ e. omega (arith, e), (λ e. omega (arith, e), (λ e. omega (ari
 data Keyed (names : List (List ℕ)) (key args : List ℕ) (i : Item) : Type 0 where
   k_name : key ≡ codes "line" → LineName args → i ≡ name args → Keyed names key args i
   k_rule : key ≡ codes "rule" → length args ≤ 65535 → i ≡ rule args → Keyed names key args i
-  k_entry : (e : Entry) → key ≡ codes "enter" → Enters names args e → i ≡ entry e → Keyed names key args i
-  k_tick : (n : ℕ) → key ≡ codes "tick" → Whole args n → i ≡ tick n → Keyed names key args i
+  k_entry : (e : Entry) → key ≡ codes "enter" → WordsEnter names args e → i ≡ entry e → Keyed names key args i
+  k_tick : (n : ℕ) → key ≡ codes "tick" → WholeNumber args n → i ≡ tick n → Keyed names key args i
 
-module _ (names : List (List ℕ)) (line key args : List ℕ) (cut : Cut 32 line key args) where
+module _ (names : List (List ℕ)) (line key args : List ℕ) (cut : CutAt 32 line key args) where
   keyed : (i : Item) → LineSays names line i → Keyed names key args i
   keyed i (a_name {w = w} e n p) =
       let same = same_cut 32 line (codes "line") key w args (record { put = e; clean = plain_line }) cut in
@@ -38,10 +39,10 @@ module _ (names : List (List ℕ)) (line key args : List ℕ) (cut : Cut 32 line
       k_rule (sym same.0) (subst (λ (v : List ℕ). length v ≤ 65535) same.1 n) (p ∙ ap rule same.1)
   keyed i (an_entry {words = ws} {e = x} e n p) =
       let same = same_cut 32 line (codes "enter") key ws args (record { put = e; clean = plain_enter }) cut in
-      k_entry x (sym same.0) (subst (λ (v : List ℕ). Enters names v x) same.1 n) p
+      k_entry x (sym same.0) (subst (λ (v : List ℕ). WordsEnter names v x) same.1 n) p
   keyed i (a_tick {w = w} {n = t} e n p) =
       let same = same_cut 32 line (codes "tick") key w args (record { put = e; clean = plain_tick }) cut in
-      k_tick t (sym same.0) (subst (λ (v : List ℕ). Whole v t) same.1 n) p
+      k_tick t (sym same.0) (subst (λ (v : List ℕ). WholeNumber v t) same.1 n) p
 
   whole : (word : List ℕ) → key ≡ word → line ≡ word ++ (32 ∷ args)
   whole word e = cut.put ∙ ap (λ (v : List ℕ). v ++ (32 ∷ args)) e
@@ -61,13 +62,13 @@ module _ (names : List (List ℕ)) (line key args : List ℕ) (cut : Cut 32 line
   no_rule none k i (k_entry x e n p) = omega (arith, clash k e)
   no_rule none k i (k_tick t e n p) = omega (arith, clash k e)
 
-  no_entry : ((e : Entry) → Enters names args e → ⊥) → key ≡ codes "enter" → (i : Item) → Keyed names key args i → ⊥
+  no_entry : ((e : Entry) → WordsEnter names args e → ⊥) → key ≡ codes "enter" → (i : Item) → Keyed names key args i → ⊥
   no_entry none k i (k_name e n p) = omega (arith, clash k e)
   no_entry none k i (k_rule e n p) = omega (arith, clash k e)
   no_entry none k i (k_entry x e n p) = none x n
   no_entry none k i (k_tick t e n p) = omega (arith, clash k e)
 
-  no_tick : ((n : ℕ) → Whole args n → ⊥) → key ≡ codes "tick" → (i : Item) → Keyed names key args i → ⊥
+  no_tick : ((n : ℕ) → WholeNumber args n → ⊥) → key ≡ codes "tick" → (i : Item) → Keyed names key args i → ⊥
   no_tick none k i (k_name e n p) = omega (arith, clash k e)
   no_tick none k i (k_rule e n p) = omega (arith, clash k e)
   no_tick none k i (k_entry x e n p) = omega (arith, clash k e)

@@ -8,25 +8,25 @@ use Rattle.tokens.specs.Words.{Digit}
 use Rattle.cases.specs.declared.field.Entry.{Entry}
 use Rattle.cases.specs.Contents.{Item, name, rule, entry, tick}
 use Rattle.case_text.specs.Pieces.{lines_of}
-use Rattle.case_text.specs.Words.{Whole, Plain, Minus, Reading, plain, minus, First, Enters}
+use Rattle.case_text.specs.Words.{WholeNumber, PlainNumber, MinusNumber, WritesReading, plain, minus, FirstNamed, WordsEnter}
 use Rattle.case_text.specs.Sayings.{Silent, LineSays, a_name, a_rule, an_entry, a_tick, Bad, named, names_of, LinesSay}
 use Rattle.case_text.specs.Sayings as say
-use Rattle.case_text.specs.Laws.{OneSaying, OneStop, NeverBoth}
+use Rattle.case_text.specs.Laws.{OneSaying, OneStop, NeverSaidAndStopped}
 use Rattle.case_text.proofs.Fives.{its_line, its_from, its_to, its_lower, its_upper}
 
-one_line : (names : List (List ℕ)) (w : List ℕ) (j k : ℕ) → First names w j → First names w k → j ≡ k
+one_line : (names : List (List ℕ)) (w : List ℕ) (j k : ℕ) → FirstNamed names w j → FirstNamed names w k → j ≡ k
 one_line names w j k x y = ⊎_elim (λ e. e) (⊎_elim (λ l. absurd (y.first j l x.same)) (λ l. absurd (x.first k l y.same))) (cases_order j k)
 
-no_sign : (w ds : List ℕ) (y : ℤ) → w ≡ 45 ∷ ds → Plain w y → ⊥
+no_sign : (w ds : List ℕ) (y : ℤ) → w ≡ 45 ∷ ds → PlainNumber w y → ⊥
 no_sign w ds y e p = let d : AllByRecursion Digit (45 ∷ ds) = subst (AllByRecursion Digit) e p.digits.all in omega (arith, d.0.0)
 
-one_reading : (w : List ℕ) (y z : ℤ) → Reading w y → Reading w z → y ≡ z
+one_reading : (w : List ℕ) (y z : ℤ) → WritesReading w y → WritesReading w z → y ≡ z
 one_reading w y z (plain p) (plain q) = p.value ∙ sym q.value
 one_reading w y z (plain p) (minus {ds = ds} f m) = absurd (no_sign w ds y f p)
 one_reading w y z (minus {ds = ds} e m) (plain q) = absurd (no_sign w ds z e q)
-one_reading w y z (minus {ds = ds} e m) (minus {ds = other} f n) = m.value ∙ sym (subst (λ (v : List ℕ). Minus v z) (tail-eq_of_cons-eq (sym f ∙ e)) n).value
+one_reading w y z (minus {ds = ds} e m) (minus {ds = other} f n) = m.value ∙ sym (subst (λ (v : List ℕ). MinusNumber v z) (tail-eq_of_cons-eq (sym f ∙ e)) n).value
 
-one_entry : (names : List (List ℕ)) (words : List ℕ) (d e : Entry) → Enters names words d → Enters names words e → d ≡ e
+one_entry : (names : List (List ℕ)) (words : List ℕ) (d e : Entry) → WordsEnter names words d → WordsEnter names words e → d ≡ e
 one_entry names words d e x y =
     let f = x.five in
     let l = one_line names x.which d.line e.line x.line_is (its_line names words x.which x.begin x.end x.low x.high f e y) in
@@ -50,12 +50,12 @@ one_item names line i j (a_rule e n p) (an_entry f m q) = absurd (omega (arith, 
 one_item names line i j (a_rule e n p) (a_tick f m q) = absurd (omega (arith, first_byte e f))
 one_item names line i j (an_entry e n p) (a_name f m q) = absurd (omega (arith, first_byte e f))
 one_item names line i j (an_entry e n p) (a_rule f m q) = absurd (omega (arith, first_byte e f))
-one_item names line i j (an_entry {words = ws} {e = x} e n p) (an_entry {words = vs} {e = y} f m q) = p ∙ ap entry (one_entry names ws x y n (subst (λ (v : List ℕ). Enters names v y) (ap (drop 6) (sym f ∙ e)) m)) ∙ sym q
+one_item names line i j (an_entry {words = ws} {e = x} e n p) (an_entry {words = vs} {e = y} f m q) = p ∙ ap entry (one_entry names ws x y n (subst (λ (v : List ℕ). WordsEnter names v y) (ap (drop 6) (sym f ∙ e)) m)) ∙ sym q
 one_item names line i j (an_entry e n p) (a_tick f m q) = absurd (omega (arith, first_byte e f))
 one_item names line i j (a_tick e n p) (a_name f m q) = absurd (omega (arith, first_byte e f))
 one_item names line i j (a_tick e n p) (a_rule f m q) = absurd (omega (arith, first_byte e f))
 one_item names line i j (a_tick e n p) (an_entry f m q) = absurd (omega (arith, first_byte e f))
-one_item names line i j (a_tick {w = w} {n = t} e n p) (a_tick {w = v} {n = u} f m q) = p ∙ ap tick (n.value ∙ sym (subst (λ (x : List ℕ). Whole x u) (ap (drop 5) (sym f ∙ e)) m).value) ∙ sym q
+one_item names line i j (a_tick {w = w} {n = t} e n p) (a_tick {w = v} {n = u} f m q) = p ∙ ap tick (n.value ∙ sym (subst (λ (x : List ℕ). WholeNumber x u) (ap (drop 5) (sym f ∙ e)) m).value) ∙ sym q
 
 -- a silent line says no item
 loud : (names : List (List ℕ)) (line : List ℕ) (i : Item) → Silent line → LineSays names line i → ⊥
@@ -154,5 +154,5 @@ clash names (j ∷ x) l p a b all sx bx =
           ]
     ]
 
-pub never_both : NeverBoth
+pub never_both : NeverSaidAndStopped
 never_both text items n x y = clash [] y.before y.line y.behind items y.items (subst (λ (v : List (List ℕ)). LinesSay [] v items) y.split x) y.said y.bad

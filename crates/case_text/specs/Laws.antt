@@ -3,7 +3,7 @@ use Rattle.std.specs.Prelude.{◌≡◌, ℕ, List, []}
 use Rattle.cases.specs.Contents.{Item}
 use Rattle.case_text.specs.Pieces.{lines_of}
 use Rattle.case_text.specs.Sayings.{LinesSay}
-use Rattle.case_text.specs.Packs.{ReadsBack, Stops}
+use Rattle.case_text.specs.Packs.{ReadsBack, StopsAtLine}
 
 abbrev pub OneReadingBack : Type 0
 OneReadingBack = (bytes : List ℕ) (a b : List Item) → ReadsBack bytes a → ReadsBack bytes b → a ≡ b
@@ -13,7 +13,7 @@ abbrev pub OneSaying : Type 0
 OneSaying = (text : List ℕ) (a b : List Item) → LinesSay [] (lines_of text) a → LinesSay [] (lines_of text) b → a ≡ b
 
 abbrev pub OneStop : Type 0
-OneStop = (text : List ℕ) (m n : ℕ) → Stops text m → Stops text n → m ≡ n
+OneStop = (text : List ℕ) (m n : ℕ) → StopsAtLine text m → StopsAtLine text n → m ≡ n
 
-abbrev pub NeverBoth : Type 0
-NeverBoth = (text : List ℕ) (items : List Item) (n : ℕ) → LinesSay [] (lines_of text) items → Stops text n → ⊥
+abbrev pub NeverSaidAndStopped : Type 0
+NeverSaidAndStopped = (text : List ℕ) (items : List Item) (n : ℕ) → LinesSay [] (lines_of text) items → StopsAtLine text n → ⊥

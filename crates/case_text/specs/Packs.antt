@@ -18,7 +18,7 @@ pub record Packed (text bytes : List ℕ) : Type 0 where
   pub back : ReadsBack bytes items
 
 -- lines count from 1; those before line n say items or nothing, and line n is bad
-pub record Stops (text : List ℕ) (n : ℕ) : Type 0 where
+pub record StopsAtLine (text : List ℕ) (n : ℕ) : Type 0 where
   pub before : List (List ℕ)
   pub line : List ℕ
   pub behind : List (List ℕ)
@@ -29,9 +29,9 @@ pub record Stops (text : List ℕ) (n : ℕ) : Type 0 where
   pub bad : Bad (names_of items) line
 
 abbrev pub Faulted : List ℕ → PackFault → Type 0
-Faulted text (BadLine n) = Stops text n
+Faulted text (BadLine n) = StopsAtLine text n
 Faulted text NoMemory = Unit {0}
 
-abbrev pub Answered : List ℕ → Result (List ℕ) PackFault → Type 0
-Answered text (Ok bytes) = Packed text bytes
-Answered text (Err f) = Faulted text f
+abbrev pub PackAnswer : List ℕ → Result (List ℕ) PackFault → Type 0
+PackAnswer text (Ok bytes) = Packed text bytes
+PackAnswer text (Err f) = Faulted text f

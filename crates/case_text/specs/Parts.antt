@@ -8,19 +8,20 @@ use Rattle.case_text.specs.declared.fault.PackFault.{PackFault}
 use Rattle.case_text.specs.declared.fault.PackFault.TheVariants.{BadLine, NoMemory}
 use Rattle.case_text.specs.declared.line.EntryWords.{EntryWords}
 use Rattle.case_text.specs.declared.split.Split.{Split}
-use Rattle.case_text.specs.Pieces.{Cut, Without, words_of}
-use Rattle.case_text.specs.Words.{LineName, Whole, Enters}
+use Rattle.tokens.specs.Bytes.{Without}
+use Rattle.case_text.specs.Pieces.{CutAt, words_of}
+use Rattle.case_text.specs.Words.{LineName, WholeNumber, WordsEnter}
 use Rattle.case_text.specs.Sayings.{Silent, LineSays, SaysNone, Bad, named}
 
 -- the text is cut at its first c, if it has one
 abbrev pub Cuts : ℕ → List ℕ → Option Split → Type 0
 Cuts c bytes None = Without c bytes
-Cuts c bytes (Some s) = Cut c bytes s.front.now s.rest.now
+Cuts c bytes (Some s) = CutAt c bytes s.front.now s.rest.now
 
 -- the value that a word has, if it has one
-abbrev pub Reads : {A : Type 0} → (A → Type 0) → Option A → Type 0
-Reads {A} R None = (x : A) → R x → ⊥
-Reads R (Some x) = R x
+abbrev pub ValueRead : {A : Type 0} → (A → Type 0) → Option A → Type 0
+ValueRead {A} R None = (x : A) → R x → ⊥
+ValueRead R (Some x) = R x
 
 -- five words stand between single spaces, or another number of them does
 abbrev pub words_in : EntryWords → List (List ℕ)
@@ -40,12 +41,12 @@ RuleContent text None = length text ≤ 65535 → ⊥
 RuleContent text (Some c) = (length text ≤ 65535) × (item_of c ≡ rule text)
 
 abbrev pub EntryContent : List (List ℕ) → List ℕ → Option Content → Type 0
-EntryContent names words None = (e : Entry) → Enters names words e → ⊥
-EntryContent names words (Some c) = (e : Entry) × Enters names words e × (item_of c ≡ entry e)
+EntryContent names words None = (e : Entry) → WordsEnter names words e → ⊥
+EntryContent names words (Some c) = (e : Entry) × WordsEnter names words e × (item_of c ≡ entry e)
 
 abbrev pub TickContent : List ℕ → Option Content → Type 0
-TickContent w None = (n : ℕ) → Whole w n → ⊥
-TickContent w (Some c) = (n : ℕ) × Whole w n × (item_of c ≡ tick n)
+TickContent w None = (n : ℕ) → WholeNumber w n → ⊥
+TickContent w (Some c) = (n : ℕ) × WholeNumber w n × (item_of c ≡ tick n)
 
 -- what a line says, if it says something
 abbrev pub ContentOf : List (List ℕ) → List ℕ → Option Content → Type 0
@@ -60,21 +61,21 @@ FitsField (entry e) = Unit {0}
 FitsField (tick t) = Unit {0}
 
 -- one more field stands behind the bytes, and says the item
-pub record Adds (bytes : List ℕ) (i : Item) (after : List ℕ) : Type 0 where
+pub record AddsField (bytes : List ℕ) (i : Item) (after : List ℕ) : Type 0 where
   pub tag : ℕ
   pub body : List ℕ
   pub put : after ≡ bytes ++ packed tag body
   pub says : Says tag body i
 
 -- a line was taken: it was silent, and names and bytes are as they were, or it said an item
-pub record Took (names : List (List ℕ)) (bytes line : List ℕ) (i : Item) (names_after : List (List ℕ)) (after : List ℕ) : Type 0 where
+pub record TookLine (names : List (List ℕ)) (bytes line : List ℕ) (i : Item) (names_after : List (List ℕ)) (after : List ℕ) : Type 0 where
   pub says : LineSays names line i
   pub kept : names_after ≡ names ++ named i
-  pub adds : Adds bytes i after
+  pub adds : AddsField bytes i after
 
-pub data Taken (names : List (List ℕ)) (bytes line : List ℕ) (names_after : List (List ℕ)) (after : List ℕ) : Type 0 where
-  passed : Silent line → names_after ≡ names → after ≡ bytes → Taken names bytes line names_after after
-  took : (i : Item) → Took names bytes line i names_after after → Taken names bytes line names_after after
+pub data LineTaken (names : List (List ℕ)) (bytes line : List ℕ) (names_after : List (List ℕ)) (after : List ℕ) : Type 0 where
+  passed : Silent line → names_after ≡ names → after ≡ bytes → LineTaken names bytes line names_after after
+  took : (i : Item) → TookLine names bytes line i names_after after → LineTaken names bytes line names_after after
 
 abbrev pub LineRefused : List (List ℕ) → List ℕ → ℕ → PackFault → Type 0
 LineRefused names line number (BadLine n) = Bad names line × (n ≡ number)

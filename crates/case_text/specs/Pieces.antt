@@ -1,6 +1,7 @@
 -- The pieces of a text: what stands between the bytes of one kind, as lines between line ends and words between spaces.
 use Rattle.std.specs.Prelude.{◌≡◌, ℕ, List, ◌∷◌, ◌++◌, ◌==◌, ◌≢◌}
 use Rattle.std.specs.List.{AllByRecursion, slice_split}
+use Rattle.tokens.specs.Bytes.{Without}
 
 -- each c ends a piece, and begins another; a text with no c is one piece
 abbrev pub pieces : ℕ → List ℕ → List (List ℕ)
@@ -13,10 +14,7 @@ lines_of text = pieces 10 text
 abbrev pub words_of : List ℕ → List (List ℕ)
 words_of line = pieces 32 line
 
-abbrev pub Without : ℕ → List ℕ → Type 0
-Without c bs = AllByRecursion (λ b. b ≢ c) bs
-
 -- front stands before the first c, and rest behind it
-pub record Cut (c : ℕ) (whole front rest : List ℕ) : Type 0 where
+pub record CutAt (c : ℕ) (whole front rest : List ℕ) : Type 0 where
   pub put : whole ≡ front ++ (c ∷ rest)
   pub clean : Without c front

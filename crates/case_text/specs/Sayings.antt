@@ -2,7 +2,7 @@
 use Rattle.std.specs.Prelude.{◌≡◌, ℕ, ◌≤◌, List, [], ◌∷◌, ◌++◌, length, codes}
 use Rattle.cases.specs.declared.field.Entry.{Entry}
 use Rattle.cases.specs.Contents.{Item, name, rule, entry, tick}
-use Rattle.case_text.specs.Words.{LineName, Whole, Enters}
+use Rattle.case_text.specs.Words.{LineName, WholeNumber, WordsEnter}
 
 -- an empty line, and one that begins with `#`
 abbrev pub Silent : List ℕ → Type 0
@@ -13,8 +13,8 @@ Silent (b ∷ line) = b ≡ 35
 pub data LineSays (names : List (List ℕ)) (line : List ℕ) (item : Item) : Type 0 where
   a_name : {w : List ℕ} → line ≡ codes "line " ++ w → LineName w → item ≡ name w → LineSays names line item
   a_rule : {text : List ℕ} → line ≡ codes "rule " ++ text → length text ≤ 65535 → item ≡ rule text → LineSays names line item
-  an_entry : {words : List ℕ} {e : Entry} → line ≡ codes "enter " ++ words → Enters names words e → item ≡ entry e → LineSays names line item
-  a_tick : {w : List ℕ} {n : ℕ} → line ≡ codes "tick " ++ w → Whole w n → item ≡ tick n → LineSays names line item
+  an_entry : {words : List ℕ} {e : Entry} → line ≡ codes "enter " ++ words → WordsEnter names words e → item ≡ entry e → LineSays names line item
+  a_tick : {w : List ℕ} {n : ℕ} → line ≡ codes "tick " ++ w → WholeNumber w n → item ≡ tick n → LineSays names line item
 
 abbrev pub SaysNone : List (List ℕ) → List ℕ → Type 0
 SaysNone names line = (item : Item) → LineSays names line item → ⊥

@@ -2,7 +2,7 @@
 ghost use Rattle.std.specs.Prelude.{◌≡◌, ◌≤◌, ◌++◌, length, OnOk};
 ghost use Rattle.cases.specs.Contents.{entry, tick, Says, item_of};
 ghost use Rattle.cases.specs.Laws.{packed};
-ghost use Rattle.case_text.specs.Parts.{FitsField, Adds};
+ghost use Rattle.case_text.specs.Parts.{FitsField, AddsField};
 
 use cases::field::{Content, ENTRY_BYTES, Entry, TICK_BYTES};
 use cases::tag;
@@ -42,7 +42,7 @@ fn entry_bytes(e: Entry) -> [u8; ENTRY_BYTES]
 // Puts one more field behind the others.
 pub(crate) fn put(case: &mut Vec<u8>, content: Content<'_>) -> Result<(), AllocError>
     requires { FitsField (item_of content) }
-    ensures { OnOk result (Adds case.old.items (item_of content.entry) case.new.items) }
+    ensures { OnOk result (AddsField case.old.items (item_of content.entry) case.new.items) }
 {
     match content {
         Content::Name(word) => put_field(case, tag::NAME, word),

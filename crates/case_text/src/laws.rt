@@ -1,5 +1,5 @@
 // What holds of every case and of every text, on the contracts of functions.
-ghost use Rattle.case_text.specs.Laws.{OneReadingBack, OneSaying, OneStop, NeverBoth};
+ghost use Rattle.case_text.specs.Laws.{OneReadingBack, OneSaying, OneStop, NeverSaidAndStopped};
 
 // Bytes are read back as one list of items at most.
 pub fn bytes_say_one_thing()
@@ -10,5 +10,5 @@ pub fn bytes_say_one_thing()
 pub fn texts_have_one_answer()
     ensures items { OneSaying }
     ensures line { OneStop }
-    ensures apart { NeverBoth }
+    ensures apart { NeverSaidAndStopped }
 {}

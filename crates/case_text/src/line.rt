@@ -1,9 +1,9 @@
 // What a line of a text says.
 ghost use Rattle.std.specs.Prelude.{Decides};
 ghost use Rattle.tokens.specs.Answers.{texts};
-ghost use Rattle.case_text.specs.Words.{Enters};
+ghost use Rattle.case_text.specs.Words.{WordsEnter};
 ghost use Rattle.case_text.specs.Sayings.{Silent};
-ghost use Rattle.case_text.specs.Parts.{Reads, Five, ContentOf, NameContent, RuleContent};
+ghost use Rattle.case_text.specs.Parts.{ValueRead, Five, ContentOf, NameContent, RuleContent};
 
 use crate::keyword::{Keyword, keyword_of};
 use crate::number::{reading, whole};
@@ -71,7 +71,7 @@ pub fn five_words<'a>(words: &'a [u8]) -> Option<EntryWords<'a>>
 
 // The entry that the words write.
 fn entry_of(names: &[&[u8]], words: &[u8]) -> Option<Entry>
-    ensures { Reads (Enters (texts names.now) words.now) result }
+    ensures { ValueRead (WordsEnter (texts names.now) words.now) result }
 {
     let five = five_words(words)?;
     let line = line_of(names, five.which)?;

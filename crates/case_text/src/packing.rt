@@ -4,7 +4,7 @@ ghost use Rattle.tokens.specs.Answers.{texts};
 ghost use Rattle.cases.specs.Contents.{item_of};
 ghost use Rattle.case_text.specs.Sayings.{named};
 ghost use Rattle.case_text.specs.Packs.{Packed, Faulted};
-ghost use Rattle.case_text.specs.Parts.{Taken, LineRefused};
+ghost use Rattle.case_text.specs.Parts.{LineTaken, LineRefused};
 
 use crate::fault::PackFault;
 use crate::field::put;
@@ -31,7 +31,7 @@ fn take_line<'a>(
     number: usize,
     line: &'a [u8],
 ) -> Result<(), PackFault>
-    ensures { MatchResult result (λ _. Taken (texts names.old.items) case.old.items line.now (texts names.new.items) case.new.items) (λ f. LineRefused (texts names.old.items) line.now number f) }
+    ensures { MatchResult result (λ _. LineTaken (texts names.old.items) case.old.items line.now (texts names.new.items) case.new.items) (λ f. LineRefused (texts names.old.items) line.now number f) }
 {
     if is_silent(line) {
         return Ok(());

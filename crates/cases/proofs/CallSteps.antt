@@ -6,11 +6,11 @@ use Rattle.cases.specs.declared.fault.CaseFault.{CaseFault}
 use Rattle.cases.specs.declared.fault.CaseFault.TheVariants.{BadField, Misplaced}
 use Rattle.cases.specs.Fields.{Leads}
 use Rattle.cases.specs.Contents.{Item, Says, Wrong}
-use Rattle.cases.specs.Orders.{Follows}
+use Rattle.cases.specs.Orders.{MayFollow}
 use Rattle.cases.specs.Headings.{refusal}
 use Rattle.cases.specs.Steps.{Steps, wrong, misplaced, step, call_item, Called}
 
-pub follows : (c : Call) → Follows (call_item c)
+pub follows : (c : Call) → MayFollow (call_item c)
 follows (Enter e) = tt
 follows (Judge t) = tt
 
@@ -18,7 +18,7 @@ module _ (tag : ℕ) (body : List ℕ) where
   pub wrong_call : (f : CaseFault) → Wrong tag body → f ≡ BadField → Called tag body (Err f)
   wrong_call f w e n bytes rest l = wrong l w (ap (λ (g : CaseFault). Err (refusal n g)) e)
 
-  pub no_call : (i : Item) → Says tag body i → (Follows i → ⊥) → Called tag body (Err Misplaced)
+  pub no_call : (i : Item) → Says tag body i → (MayFollow i → ⊥) → Called tag body (Err Misplaced)
   no_call i s off n bytes rest l = misplaced l s off refl
 
 module _ (n field next tag : ℕ) (body bytes rest : List ℕ) (l : Leads bytes tag body rest) (here : field ≡ n) where

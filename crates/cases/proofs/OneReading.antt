@@ -10,10 +10,10 @@ use Rattle.cases.specs.declared.fault.CaseFault.TheVariants.{Rule}
 use Rattle.cases.specs.Fields.{Leads, CutShort}
 use Rattle.cases.specs.Contents.{Item, name, rule, Says, a_name, a_rule, an_entry, a_tick, Wrong}
 use Rattle.cases.specs.Readers.{Goes, passes, stays, GoesTo, last, over}
-use Rattle.cases.specs.Orders.{Stands, Follows}
+use Rattle.cases.specs.Orders.{MayStand, MayFollow}
 use Rattle.cases.specs.Headings.{refusal, Opens, missing, cut, wrong, misplaced, named, no_rule, ruled}
 use Rattle.cases.specs.Steps as step
-use Rattle.cases.specs.Laws.{OneField, OneItem, OneOpening, OneStep, OnePlace}
+use Rattle.cases.specs.Laws.{OneField, OneItem, OneOpening, OneStep, OneReadingPlace}
 
 -- what the bytes say of their field, by place
 module _ (bytes : List ℕ) (tag : ℕ) (body rest : List ℕ) (l : Leads bytes tag body rest) where
@@ -121,27 +121,27 @@ one_opening n names bytes r s (misplaced {i = xi} xl xs xoff xe) (missing yz ye)
 one_opening n names bytes r s (misplaced {i = xi} xl xs xoff xe) (cut yc ye) = absurd (cut_leads bytes yc xl)
 one_opening n names bytes r s (misplaced {i = xi} xl xs xoff xe) (wrong yl yw ye) = absurd (wrong_says bytes xl yl xi xs yw)
 one_opening n names bytes r s (misplaced {i = xi} xl xs xoff xe) (misplaced {i = yi} yl ys yoff ye) = xe ∙ sym ye
-one_opening n names bytes r s (misplaced {i = xi} xl xs xoff xe) (named {rest = yrest} {w = yv} yl ys yst yo) = absurd (xoff (subst (Stands names) (sym (says_same bytes xl yl xi (name yv) xs ys)) yst))
-one_opening n names bytes r s (misplaced {i = xi} xl xs xoff xe) (no_rule {text = yt} yf yl ys yst ya ye) = absurd (xoff (subst (Stands names) (sym (says_same bytes xl yl xi (rule yt) xs ys)) yst))
-one_opening n names bytes r s (misplaced {i = xi} xl xs xoff xe) (ruled {rest = yrest} {text = yt} yrows yl ys yst ya ye) = absurd (xoff (subst (Stands names) (sym (says_same bytes xl yl xi (rule yt) xs ys)) yst))
+one_opening n names bytes r s (misplaced {i = xi} xl xs xoff xe) (named {rest = yrest} {w = yv} yl ys yst yo) = absurd (xoff (subst (MayStand names) (sym (says_same bytes xl yl xi (name yv) xs ys)) yst))
+one_opening n names bytes r s (misplaced {i = xi} xl xs xoff xe) (no_rule {text = yt} yf yl ys yst ya ye) = absurd (xoff (subst (MayStand names) (sym (says_same bytes xl yl xi (rule yt) xs ys)) yst))
+one_opening n names bytes r s (misplaced {i = xi} xl xs xoff xe) (ruled {rest = yrest} {text = yt} yrows yl ys yst ya ye) = absurd (xoff (subst (MayStand names) (sym (says_same bytes xl yl xi (rule yt) xs ys)) yst))
 one_opening n names bytes r s (named {rest = xrest} {w = xv} xl xs xst xo) (missing yz ye) = absurd (nothing_leads bytes yz xl)
 one_opening n names bytes r s (named {rest = xrest} {w = xv} xl xs xst xo) (cut yc ye) = absurd (cut_leads bytes yc xl)
 one_opening n names bytes r s (named {rest = xrest} {w = xv} xl xs xst xo) (wrong yl yw ye) = absurd (wrong_says bytes xl yl (name xv) xs yw)
-one_opening n names bytes r s (named {rest = xrest} {w = xv} xl xs xst xo) (misplaced {i = yi} yl ys yoff ye) = absurd (yoff (subst (Stands names) (says_same bytes xl yl (name xv) yi xs ys) xst))
+one_opening n names bytes r s (named {rest = xrest} {w = xv} xl xs xst xo) (misplaced {i = yi} yl ys yoff ye) = absurd (yoff (subst (MayStand names) (says_same bytes xl yl (name xv) yi xs ys) xst))
 one_opening n names bytes r s (named {rest = xrest} {w = xv} xl xs xst xo) (named {rest = yrest} {w = yv} yl ys yst yo) = one_opening (n + 1) (names ++ (xv ∷ [])) xrest r s xo (subst (λ (v : List ℕ). Opens (n + 1) (names ++ (v ∷ [])) xrest s) (sym (word_of xv yv (says_same bytes xl yl (name xv) (name yv) xs ys))) (subst (λ (v : List ℕ). Opens (n + 1) (names ++ (yv ∷ [])) v s) (sym (rests bytes xl yl)) yo))
 one_opening n names bytes r s (named {rest = xrest} {w = xv} xl xs xst xo) (no_rule {text = yt} yf yl ys yst ya ye) = absurd (name_rule xv yt (says_same bytes xl yl (name xv) (rule yt) xs ys))
 one_opening n names bytes r s (named {rest = xrest} {w = xv} xl xs xst xo) (ruled {rest = yrest} {text = yt} yrows yl ys yst ya ye) = absurd (name_rule xv yt (says_same bytes xl yl (name xv) (rule yt) xs ys))
 one_opening n names bytes r s (no_rule {text = xt} xf xl xs xst xa xe) (missing yz ye) = absurd (nothing_leads bytes yz xl)
 one_opening n names bytes r s (no_rule {text = xt} xf xl xs xst xa xe) (cut yc ye) = absurd (cut_leads bytes yc xl)
 one_opening n names bytes r s (no_rule {text = xt} xf xl xs xst xa xe) (wrong yl yw ye) = absurd (wrong_says bytes xl yl (rule xt) xs yw)
-one_opening n names bytes r s (no_rule {text = xt} xf xl xs xst xa xe) (misplaced {i = yi} yl ys yoff ye) = absurd (yoff (subst (Stands names) (says_same bytes xl yl (rule xt) yi xs ys) xst))
+one_opening n names bytes r s (no_rule {text = xt} xf xl xs xst xa xe) (misplaced {i = yi} yl ys yoff ye) = absurd (yoff (subst (MayStand names) (says_same bytes xl yl (rule xt) yi xs ys) xst))
 one_opening n names bytes r s (no_rule {text = xt} xf xl xs xst xa xe) (named {rest = yrest} {w = yv} yl ys yst yo) = absurd (name_rule yv xt (sym (says_same bytes xl yl (rule xt) (name yv) xs ys)))
 one_opening n names bytes r s (no_rule {text = xt} xf xl xs xst xa xe) (no_rule {text = yt} yf yl ys yst ya ye) = xe ∙ ap (λ (f : RuleFault). Err (refusal n (Rule f))) (fault_of xf yf (one_answer names xt (Err xf) (Err yf) xa (subst (λ (v : List ℕ). Answered names v (Err yf)) (sym (text_of xt yt (says_same bytes xl yl (rule xt) (rule yt) xs ys))) ya))) ∙ sym ye
 one_opening n names bytes r s (no_rule {text = xt} xf xl xs xst xa xe) (ruled {rest = yrest} {text = yt} yrows yl ys yst ya ye) = absurd (ok_err yrows xf (sym (one_answer names xt (Err xf) (Ok yrows) xa (subst (λ (v : List ℕ). Answered names v (Ok yrows)) (sym (text_of xt yt (says_same bytes xl yl (rule xt) (rule yt) xs ys))) ya))))
 one_opening n names bytes r s (ruled {rest = xrest} {text = xt} xrows xl xs xst xa xe) (missing yz ye) = absurd (nothing_leads bytes yz xl)
 one_opening n names bytes r s (ruled {rest = xrest} {text = xt} xrows xl xs xst xa xe) (cut yc ye) = absurd (cut_leads bytes yc xl)
 one_opening n names bytes r s (ruled {rest = xrest} {text = xt} xrows xl xs xst xa xe) (wrong yl yw ye) = absurd (wrong_says bytes xl yl (rule xt) xs yw)
-one_opening n names bytes r s (ruled {rest = xrest} {text = xt} xrows xl xs xst xa xe) (misplaced {i = yi} yl ys yoff ye) = absurd (yoff (subst (Stands names) (says_same bytes xl yl (rule xt) yi xs ys) xst))
+one_opening n names bytes r s (ruled {rest = xrest} {text = xt} xrows xl xs xst xa xe) (misplaced {i = yi} yl ys yoff ye) = absurd (yoff (subst (MayStand names) (says_same bytes xl yl (rule xt) yi xs ys) xst))
 one_opening n names bytes r s (ruled {rest = xrest} {text = xt} xrows xl xs xst xa xe) (named {rest = yrest} {w = yv} yl ys yst yo) = absurd (name_rule yv xt (sym (says_same bytes xl yl (rule xt) (name yv) xs ys)))
 one_opening n names bytes r s (ruled {rest = xrest} {text = xt} xrows xl xs xst xa xe) (no_rule {text = yt} yf yl ys yst ya ye) = absurd (ok_err xrows yf (one_answer names xt (Ok xrows) (Err yf) xa (subst (λ (v : List ℕ). Answered names v (Err yf)) (sym (text_of xt yt (says_same bytes xl yl (rule xt) (rule yt) xs ys))) ya)))
 one_opening n names bytes r s (ruled {rest = xrest} {text = xt} xrows xl xs xst xa xe) (ruled {rest = yrest} {text = yt} yrows yl ys yst ya ye) = xe ∙ ap (λ (v : List Row). Ok (record { lines = length names; rows = v; next = n + 1; rest = xrest })) (rows_of_answer xrows yrows (one_answer names xt (Ok xrows) (Ok yrows) xa (subst (λ (v : List ℕ). Answered names v (Ok yrows)) (sym (text_of xt yt (says_same bytes xl yl (rule xt) (rule yt) xs ys))) ya))) ∙ ap (λ (v : List ℕ). Ok (record { lines = length names; rows = yrows; next = n + 1; rest = v })) (rests bytes xl yl) ∙ sym ye
@@ -166,11 +166,11 @@ one_step n bytes r s (step.misplaced {i = xi} xl xs xoff xe) (step.ended yz ye) 
 one_step n bytes r s (step.misplaced {i = xi} xl xs xoff xe) (step.cut yc ye) = absurd (cut_leads bytes yc xl)
 one_step n bytes r s (step.misplaced {i = xi} xl xs xoff xe) (step.wrong yl yw ye) = absurd (wrong_says bytes xl yl xi xs yw)
 one_step n bytes r s (step.misplaced {i = xi} xl xs xoff xe) (step.misplaced {i = yi} yl ys yoff ye) = xe ∙ sym ye
-one_step n bytes r s (step.misplaced {i = xi} xl xs xoff xe) (step.step {rest = yrest} {i = yi} yl ys yst ye) = absurd (xoff (subst Follows (sym (says_same bytes xl yl xi yi xs ys)) yst))
+one_step n bytes r s (step.misplaced {i = xi} xl xs xoff xe) (step.step {rest = yrest} {i = yi} yl ys yst ye) = absurd (xoff (subst MayFollow (sym (says_same bytes xl yl xi yi xs ys)) yst))
 one_step n bytes r s (step.step {rest = xrest} {i = xi} xl xs xst xe) (step.ended yz ye) = absurd (nothing_leads bytes yz xl)
 one_step n bytes r s (step.step {rest = xrest} {i = xi} xl xs xst xe) (step.cut yc ye) = absurd (cut_leads bytes yc xl)
 one_step n bytes r s (step.step {rest = xrest} {i = xi} xl xs xst xe) (step.wrong yl yw ye) = absurd (wrong_says bytes xl yl xi xs yw)
-one_step n bytes r s (step.step {rest = xrest} {i = xi} xl xs xst xe) (step.misplaced {i = yi} yl ys yoff ye) = absurd (yoff (subst Follows (says_same bytes xl yl xi yi xs ys) xst))
+one_step n bytes r s (step.step {rest = xrest} {i = xi} xl xs xst xe) (step.misplaced {i = yi} yl ys yoff ye) = absurd (yoff (subst MayFollow (says_same bytes xl yl xi yi xs ys) xst))
 one_step n bytes r s (step.step {rest = xrest} {i = xi} xl xs xst xe) (step.step {rest = yrest} {i = yi} yl ys yst ye) = xe ∙ ap (λ (i : Item). Ok (Some (record { field = n; item = i; next = n + 1; rest = xrest }))) (says_same bytes xl yl xi yi xs ys) ∙ ap (λ (v : List ℕ). Ok (Some (record { field = n; item = yi; next = n + 1; rest = v }))) (rests bytes xl yl) ∙ sym ye
 
 -- fields are asked for from the first on
@@ -184,7 +184,7 @@ one_going n m o bytes rest more (passes l e) (stays z f g) = absurd (z _ _ _ l)
 one_going n m o bytes rest more (stays z e d) (passes l f) = absurd (z _ _ _ l)
 one_going n m o bytes rest more (stays z e d) (stays y f g) = (e ∙ sym f, d ∙ sym g)
 
-pub one_place : OnePlace
+pub one_place : OneReadingPlace
 one_place k n m o bytes rest more (last e g) (last f h) = one_going n m o bytes rest more g h
 one_place k n m o bytes rest more (last e g) (over l h) = absurd (omega (arith, e, from_first h))
 one_place k n m o bytes rest more (over l g) (last e h) = absurd (omega (arith, e, from_first g))

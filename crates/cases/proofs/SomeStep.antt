@@ -5,7 +5,7 @@ use native.Mathlib.Decide.{dec_lt, dec_le, ℕ_discrete}
 use Rattle.cases.specs.declared.fault.CaseRefusal.{CaseRefusal}
 use Rattle.cases.specs.Fields.{Leads, CutShort}
 use Rattle.cases.specs.Contents.{Item, name, rule, entry, tick, Says, a_name, a_rule, an_entry, a_tick, Wrong}
-use Rattle.cases.specs.Orders.{Follows}
+use Rattle.cases.specs.Orders.{MayFollow}
 use Rattle.cases.specs.Steps.{Steps, ended, cut, wrong, misplaced, step}
 use Rattle.cases.proofs.Splits.{leads, no_front, no_body}
 
@@ -72,7 +72,7 @@ module _ (tag : ℕ) (body : List ℕ) where
 pub data Found (n : ℕ) (bytes : List ℕ) : Type 0 where
   ends : Steps n bytes (Ok None) → Found n bytes
   refuses : (e : CaseRefusal) → Steps n bytes (Err e) → Found n bytes
-  goes : (i : Item) (rest : List ℕ) → Follows i → length rest < length bytes → Steps n bytes (Ok (Some (record { field = n; item = i; next = n + 1; rest = rest }))) → Found n bytes
+  goes : (i : Item) (rest : List ℕ) → MayFollow i → length rest < length bytes → Steps n bytes (Ok (Some (record { field = n; item = i; next = n + 1; rest = rest }))) → Found n bytes
 
 pub found : (n : ℕ) (bytes : List ℕ) → Found n bytes
 found n bytes = at (front bytes)

@@ -5,7 +5,7 @@ use Rattle.cases.specs.declared.fault.CaseFault.TheVariants.{BadField}
 use Rattle.cases.specs.declared.field.Entry.{Entry}
 use Rattle.cases.specs.declared.field.Content.{Content}
 use Rattle.cases.specs.declared.field.Content.TheVariants as content
-use Rattle.cases.specs.Numbers.{number_at, signed_at}
+use Rattle.cases.specs.Numbers.{four_byte_number, signed_at}
 
 pub data Item : Type 0 where
   name : List ℕ → Item
@@ -17,8 +17,8 @@ pub data Item : Type 0 where
 pub data Says (tag : ℕ) (body : List ℕ) (item : Item) : Type 0 where
   a_name : tag ≡ 0x4C → 0 < length body → length body ≤ 8 → item ≡ name body → Says tag body item
   a_rule : tag ≡ 0x52 → item ≡ rule body → Says tag body item
-  an_entry : tag ≡ 0x45 → length body ≡ 17 → item ≡ entry (record { line = slice_index body 0; from = number_at 1 body; to = number_at 5 body; lower = signed_at 9 body; upper = signed_at 13 body }) → Says tag body item
-  a_tick : tag ≡ 0x54 → length body ≡ 4 → item ≡ tick (number_at 0 body) → Says tag body item
+  an_entry : tag ≡ 0x45 → length body ≡ 17 → item ≡ entry (record { line = slice_index body 0; from = four_byte_number 1 body; to = four_byte_number 5 body; lower = signed_at 9 body; upper = signed_at 13 body }) → Says tag body item
+  a_tick : tag ≡ 0x54 → length body ≡ 4 → item ≡ tick (four_byte_number 0 body) → Says tag body item
 
 -- the tag is unknown, or the length is not one that the tag may have
 abbrev pub Wrong : ℕ → List ℕ → Type 0

@@ -5,7 +5,7 @@ use Rattle.cases.specs.declared.field.Entry.{Entry}
 use Rattle.cases.specs.Fields.{Leads}
 use Rattle.cases.specs.Contents.{Item, name, rule, entry, tick, Says}
 use Rattle.cases.specs.Readers.{GoesTo}
-use Rattle.cases.specs.Headings.{Opened, Opens}
+use Rattle.cases.specs.Headings.{OpenedCase, Opens}
 use Rattle.cases.specs.Steps.{Stepped, Steps}
 
 abbrev pub OneField : Type 0
@@ -15,14 +15,14 @@ abbrev pub OneItem : Type 0
 OneItem = (tag : ℕ) (body : List ℕ) (i j : Item) → Says tag body i → Says tag body j → i ≡ j
 
 abbrev pub OneOpening : Type 0
-OneOpening = (n : ℕ) (names : List (List ℕ)) (bytes : List ℕ) (r s : Result Opened CaseRefusal) → Opens n names bytes r → Opens n names bytes s → r ≡ s
+OneOpening = (n : ℕ) (names : List (List ℕ)) (bytes : List ℕ) (r s : Result OpenedCase CaseRefusal) → Opens n names bytes r → Opens n names bytes s → r ≡ s
 
 abbrev pub OneStep : Type 0
 OneStep = (n : ℕ) (bytes : List ℕ) (r s : Result (Option Stepped) CaseRefusal) → Steps n bytes r → Steps n bytes s → r ≡ s
 
 -- asked for the fields up to one, reading stands at one place
-abbrev pub OnePlace : Type 0
-OnePlace = (k n m o : ℕ) (bytes rest more : List ℕ) → GoesTo k n bytes m rest → GoesTo k n bytes o more → (m ≡ o) × (rest ≡ more)
+abbrev pub OneReadingPlace : Type 0
+OneReadingPlace = (k n m o : ℕ) (bytes rest more : List ℕ) → GoesTo k n bytes m rest → GoesTo k n bytes o more → (m ≡ o) × (rest ≡ more)
 
 -- a field in bytes, and a number in four bytes
 abbrev pub packed : ℕ → List ℕ → List ℕ

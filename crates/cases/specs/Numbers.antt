@@ -11,8 +11,8 @@ abbrev pub complement : ℕ → ℤ
 complement n = cond (nat_lt n 2147483648) (pos n) (negsuc (4294967295 - n))
 
 -- the four bytes from a place on
-abbrev pub number_at : ℕ → List ℕ → ℕ
-number_at at bytes = big_endian (take 4 (drop at bytes))
+abbrev pub four_byte_number : ℕ → List ℕ → ℕ
+four_byte_number at bytes = big_endian (take 4 (drop at bytes))
 
 abbrev pub signed_at : ℕ → List ℕ → ℤ
-signed_at at bytes = complement (number_at at bytes)
+signed_at at bytes = complement (four_byte_number at bytes)

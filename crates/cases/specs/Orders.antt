@@ -13,15 +13,15 @@ pub record Admits (names : List (List ℕ)) (w : List ℕ) : Type 0 where
   pub fresh : Repeated names w → ⊥
 
 -- before the rule, behind these names: another name, or the rule if there is a name
-abbrev pub Stands : List (List ℕ) → Item → Type 0
-Stands names (name w) = Admits names w
-Stands names (rule text) = 0 < length names
-Stands names (entry e) = ⊥
-Stands names (tick t) = ⊥
+abbrev pub MayStand : List (List ℕ) → Item → Type 0
+MayStand names (name w) = Admits names w
+MayStand names (rule text) = 0 < length names
+MayStand names (entry e) = ⊥
+MayStand names (tick t) = ⊥
 
 -- behind the rule: entries and ticks
-abbrev pub Follows : Item → Type 0
-Follows (name w) = ⊥
-Follows (rule text) = ⊥
-Follows (entry e) = Unit {0}
-Follows (tick t) = Unit {0}
+abbrev pub MayFollow : Item → Type 0
+MayFollow (name w) = ⊥
+MayFollow (rule text) = ⊥
+MayFollow (entry e) = Unit {0}
+MayFollow (tick t) = Unit {0}

@@ -15,17 +15,17 @@ abbrev pub next_of : CaseReader → ℕ
 next_of r = r.number + 1
 
 -- the field that the bytes begin with is taken, with the next number: the reader stands behind it, in the same bytes
-pub record Took (before : CaseReader) (f : Field) (after : CaseReader) : Type 0 where
+pub record TookField (before : CaseReader) (f : Field) (after : CaseReader) : Type 0 where
   pub leads : Leads (left_of before) f.tag f.bytes.now (left_of after)
   pub number : f.number ≡ next_of before
   pub count : after.number ≡ f.number
   pub same : after.bytes ≡ before.bytes
 
 -- one step: a field is taken; where no byte is left, there is none; and one that is cut short is refused. The latter two leave the reader as it was
-abbrev pub Next : CaseReader → Result (Option Field) CaseRefusal → CaseReader → Type 0
-Next before (Ok None) after = (left_of before ≡ []) × (after ≡ before)
-Next before (Ok (Some f)) after = Took before f after
-Next before (Err e) after = CutShort (left_of before) × (e ≡ record { field = next_of before; fault = BadField }) × (after ≡ before)
+abbrev pub NextField : CaseReader → Result (Option Field) CaseRefusal → CaseReader → Type 0
+NextField before (Ok None) after = (left_of before ≡ []) × (after ≡ before)
+NextField before (Ok (Some f)) after = TookField before f after
+NextField before (Err e) after = CutShort (left_of before) × (e ≡ record { field = next_of before; fault = BadField }) × (after ≡ before)
 
 -- the bytes begin with no whole field: there are none, or the field is cut short
 abbrev pub NoField : List ℕ → Type 0

@@ -9,7 +9,7 @@ use Rattle.cases.specs.declared.fault.CaseRefusal.{CaseRefusal}
 use Rattle.cases.specs.declared.reader.CaseReader.{CaseReader}
 use Rattle.cases.specs.Fields.{Leads, CutShort}
 use Rattle.cases.specs.Contents.{Item, entry, tick, Says, Wrong}
-use Rattle.cases.specs.Orders.{Follows}
+use Rattle.cases.specs.Orders.{MayFollow}
 use Rattle.cases.specs.Headings.{refusal}
 use Rattle.cases.specs.Readers.{left_of, next_of}
 
@@ -30,8 +30,8 @@ pub data Steps (n : ℕ) (bytes : List ℕ) (r : Result (Option Stepped) CaseRef
   ended : bytes ≡ [] → r ≡ Ok None → Steps n bytes r
   cut : CutShort bytes → r ≡ Err (refusal n BadField) → Steps n bytes r
   wrong : {tag : ℕ} {body rest : List ℕ} → Leads bytes tag body rest → Wrong tag body → r ≡ Err (refusal n BadField) → Steps n bytes r
-  misplaced : {tag : ℕ} {body rest : List ℕ} {i : Item} → Leads bytes tag body rest → Says tag body i → (Follows i → ⊥) → r ≡ Err (refusal n Misplaced) → Steps n bytes r
-  step : {tag : ℕ} {body rest : List ℕ} {i : Item} → Leads bytes tag body rest → Says tag body i → Follows i → r ≡ Ok (Some (record { field = n; item = i; next = n + 1; rest = rest })) → Steps n bytes r
+  misplaced : {tag : ℕ} {body rest : List ℕ} {i : Item} → Leads bytes tag body rest → Says tag body i → (MayFollow i → ⊥) → r ≡ Err (refusal n Misplaced) → Steps n bytes r
+  step : {tag : ℕ} {body rest : List ℕ} {i : Item} → Leads bytes tag body rest → Says tag body i → MayFollow i → r ≡ Ok (Some (record { field = n; item = i; next = n + 1; rest = rest })) → Steps n bytes r
 
 abbrev pub call_item : Call → Item
 call_item (Enter e) = entry e

@@ -1,6 +1,6 @@
 // The fields of a case.
 ghost use Rattle.std.specs.Prelude.{◌≡◌, ◌+◌, ◌≤◌, length};
-ghost use Rattle.cases.specs.Numbers.{number_at, signed_at};
+ghost use Rattle.cases.specs.Numbers.{four_byte_number, signed_at};
 ghost use Rattle.cases.specs.Contents.{ContentRead};
 
 use crate::fault::CaseFault;
@@ -43,7 +43,7 @@ pub enum Content<'a> {
 // The four bytes from `at` on, the high byte first. They are read one by one, since `<[u8; 4]>::try_from` has a refusal that cannot come here.
 fn unsigned(bytes: &[u8], at: usize) -> u32
     requires { at + 4 ≤ length bytes.now }
-    ensures { result ≡ number_at at bytes.now }
+    ensures { result ≡ four_byte_number at bytes.now }
 {
     u32::from_be_bytes([bytes[at], bytes[at + 1], bytes[at + 2], bytes[at + 3]])
 }

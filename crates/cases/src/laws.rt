@@ -1,5 +1,5 @@
 // What holds of every case, on the contracts of functions.
-ghost use Rattle.cases.specs.Laws.{OneField, OneItem, OneOpening, OneStep, OnePlace, FieldsRead, NamesRead, RulesRead, EntriesRead, TicksRead};
+ghost use Rattle.cases.specs.Laws.{OneField, OneItem, OneOpening, OneStep, OneReadingPlace, FieldsRead, NamesRead, RulesRead, EntriesRead, TicksRead};
 
 // Bytes begin with one field at most, and a field says one thing at most.
 pub fn fields_are_one()
@@ -11,7 +11,7 @@ pub fn fields_are_one()
 pub fn readings_are_one()
     ensures opening { OneOpening }
     ensures step { OneStep }
-    ensures place { OnePlace }
+    ensures place { OneReadingPlace }
 {}
 
 // A field that is put into bytes is read again, with what stands behind it, and says what was put into it.

@@ -2,7 +2,7 @@
 ghost use Rattle.std.specs.Prelude.{[]};
 ghost use Rattle.tokens.specs.Answers.{texts};
 ghost use Rattle.cases.specs.Readers.{left_of, next_of, AskedTo};
-ghost use Rattle.cases.specs.Headings.{Opens, Heads, Wanted, heading_reply, last_field};
+ghost use Rattle.cases.specs.Headings.{Opens, Heads, NeededField, heading_reply, last_field};
 
 use crate::fault::{CaseFault, CaseRefusal};
 use crate::field::{Content, Field};
@@ -27,7 +27,7 @@ fn head(names: &[&[u8]], field: Field<'_>) -> Result<Option<Rule>, CaseFault>
 
 // The next field, where one has to follow; without one the reader stays where it is.
 fn wanted<'a>(reader: &mut CaseReader<'a>) -> Result<Field<'a>, CaseRefusal>
-    ensures { Wanted reader.old result reader.new }
+    ensures { NeededField reader.old result reader.new }
 {
     let next = reader.next()?;
     next.ok_or(CaseFault::Misplaced.at(reader.number + 1))

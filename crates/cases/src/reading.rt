@@ -1,6 +1,6 @@
 // Reading a case field by field.
 ghost use Rattle.std.specs.Prelude.{◌≡◌};
-ghost use Rattle.cases.specs.Readers.{left_of, Next};
+ghost use Rattle.cases.specs.Readers.{left_of, NextField};
 
 use crate::fault::{CaseFault, CaseRefusal};
 use crate::field::Field;
@@ -22,7 +22,7 @@ impl<'a> CaseReader<'a> {
 
     // The next field, if there is one; one that is cut short is refused. Either of these leaves the reader where it stands.
     pub fn next(&mut self) -> Result<Option<Field<'a>>, CaseRefusal>
-        ensures { Next self.old result self.new }
+        ensures { NextField self.old result self.new }
     {
         let bytes = self.bytes;
         let here = &bytes[self.at..];

@@ -5,7 +5,7 @@ use Rattle.runs.specs.States.{State, readings_of}
 use Rattle.runs.specs.Jobs.{FirstUnknown}
 use Rattle.jobs.specs.Jobs.{Looked}
 use Rattle.reference.specs.declared.forecast.Forecast.{Forecast}
-use Rattle.reference.specs.Known.{reading, FirstWidest, Changed}
+use Rattle.reference.specs.Known.{forecast_reading, FirstWidest, NextDifferent}
 
 module _ (s : State) (f : Forecast) where
   -- both read the same at a tick of the line, and name the same next change
@@ -13,8 +13,8 @@ module _ (s : State) (f : Forecast) where
     pub read : Reading
     pub next : Option ℕ
     pub job : Looked s line t (Some (read, next))
-    pub reference : Changed f line t next
-    pub same : reading f line t ≡ record { lower = read.lower; upper = read.upper }
+    pub reference : NextDifferent f line t next
+    pub same : forecast_reading f line t ≡ record { lower = read.lower; upper = read.upper }
 
   -- both name the same tick as the line's first of which nothing is known
   pub record KnownAlike (line : ℕ) : Type 0 where

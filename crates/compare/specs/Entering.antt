@@ -7,17 +7,17 @@ use Rattle.jobs.specs.declared.fault.EnterFault.{EnterFault}
 use Rattle.jobs.specs.Faults.{enter_reply}
 use Rattle.jobs.specs.Entries.{Changes}
 use Rattle.reference.specs.declared.forecast.Forecast.{Forecast}
-use Rattle.reference.specs.Known.{Answered, Left}
+use Rattle.reference.specs.Known.{EntryAnswer, Left}
 use Rattle.compare.specs.declared.mismatch.Mismatch.{Mismatch}
 
 -- the job takes the step of the entry, from the state s to z, and answers r; of its cells only the line's own change, and none where r is a fault
-pub record Enters {X : Type 0} (s : State) (before : List X) (e : Entry) (r : Result (Unit {0}) EnterFault) (z : State) (after : List X) : Type 0 where
+pub record JobEnters {X : Type 0} (s : State) (before : List X) (e : Entry) (r : Result (Unit {0}) EnterFault) (z : State) (after : List X) : Type 0 where
   pub turn : JobTurn s (enter e.line e.from e.to e.lower e.upper) (enter_reply r) z
   pub cells : Changes e.line before after r
 
 -- the reference answers r, and comes from f to g
 pub record Notes (f : Forecast) (e : Entry) (r : Result (Unit {0}) EnterFault) (g : Forecast) : Type 0 where
-  pub answer : Answered f e r
+  pub answer : EntryAnswer f e r
   pub left : Left f e r g
 
 -- P holds of the answer that is given, or of some answer where the two disagree

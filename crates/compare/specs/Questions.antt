@@ -8,6 +8,6 @@ use Rattle.judge.specs.declared.fault.JudgeFault.{JudgeFault}
 use Rattle.judge.specs.Faults.{judge_number}
 
 -- the first of the conditions 7 and 8 that fails on a job of so many lines, or none
-abbrev pub Barred : List Row → ℕ → ℕ → Option JudgeFault → Type 0
-Barred rows tick lines o =
+abbrev pub QuestionBarred : List Row → ℕ → ℕ → Option JudgeFault → Type 0
+QuestionBarred rows tick lines o =
     (s : State) → length s.lines ≡ lines → FirstFailing (asks 7 (HasLines s rows) ∷ (asks 8 (tick ≤ 500000000) ∷ [])) (option_map judge_number o)

@@ -6,7 +6,7 @@ use Rattle.grades.specs.Gaps.{GapFits}
 use Rattle.grades.specs.Kinds.{Kind}
 use Rattle.grades.specs.Truths.{truths, Implied}
 use Rattle.grades.specs.Margins.{Level, level_number, level_path, clamped_is, margins}
-use Rattle.reference.specs.Gradings.{Grading, truths as zero_or_one, margins as gaps}
+use Rattle.reference.specs.Gradings.{Grading, truth_grading as zero_or_one, margin_grading as gaps}
 
 -- the grades on the scale are the values of the kind: with no two alike, in the same order, with the same gaps, opposites and ends
 pub record Measures (K : Kind) (S : Grading) (grade : K.Value → ℤ) : Type 0 where

@@ -2,7 +2,7 @@
 ghost use Rattle.std.specs.Prelude.{◌≡◌, ℕ, ◌<◌, true, length, IfOk};
 ghost use Rattle.jobs.specs.Jobs.{state_of, cells_of};
 ghost use Rattle.compare.specs.Agreement.{ReadsAlike, KnownAlike, Agrees};
-ghost use Rattle.compare.specs.Entering.{Given, Enters, Notes};
+ghost use Rattle.compare.specs.Entering.{Given, JobEnters, Notes};
 
 use crate::cells::ends_read;
 use crate::mismatch::{Mismatch, ensure};
@@ -60,7 +60,7 @@ impl Pair<'_> {
 
     // Makes the entry on both, and gives their answer.
     pub fn enter(&mut self, entry: Entry) -> Result<Result<(), EnterFault>, Mismatch>
-        ensures job { Given result (λ r. Enters (state_of self.old.job) (cells_of self.old.job) entry r (state_of self.new.job) (cells_of self.new.job)) }
+        ensures job { Given result (λ r. JobEnters (state_of self.old.job) (cells_of self.old.job) entry r (state_of self.new.job) (cells_of self.new.job)) }
         ensures alike { IfOk result (λ r. Agrees (state_of self.new.job) self.new.forecast) }
         ensures reference { Given result (λ r. Notes self.old.forecast entry r self.new.forecast) }
     {

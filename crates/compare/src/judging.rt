@@ -4,8 +4,8 @@ ghost use Rattle.grades.specs.Kinds.{Tells};
 ghost use Rattle.rules.specs.Texts.{table_of};
 ghost use Rattle.rules.specs.Tested.{Tests};
 ghost use Rattle.jobs.specs.Jobs.{state_of};
-ghost use Rattle.compare.specs.Questions.{Barred};
-ghost use Rattle.compare.specs.Found.{Judges, Needs, Verdict};
+ghost use Rattle.compare.specs.Questions.{QuestionBarred};
+ghost use Rattle.compare.specs.Found.{JudgeAnswers, Needs, Verdict};
 
 use crate::cells::{Measured, begin_alike, blank_from, blanks, ends_of, hold, written};
 use crate::lists::row_list;
@@ -33,7 +33,7 @@ impl Question<'_, '_> {
         &self,
         cells: &mut [Piece<Range<G>>],
     ) -> Result<Range<G>, JudgeFault>
-        ensures { Judges G.kind G.value (state_of self.now.job.now) (table_of self.now.rule.now) self.now.tick (length cells.old) result }
+        ensures { JudgeAnswers G.kind G.value (state_of self.now.job.now) (table_of self.now.rule.now) self.now.tick (length cells.old) result }
     {
         judge::<G>(self.job, self.rule, self.tick, cells)
     }
@@ -82,7 +82,7 @@ impl Question<'_, '_> {
 
     // Why a job of so many lines turns the question down whatever the cells, if it does.
     pub fn bar(&self, lines: usize) -> Option<JudgeFault>
-        ensures { Barred (table_of self.now.rule.now) self.now.tick lines result }
+        ensures { QuestionBarred (table_of self.now.rule.now) self.now.tick lines result }
     {
         if self.rule.rows().iter().any(|row| tests_from(*row, lines)) {
             Some(JudgeFault::NoSuchLine)
@@ -95,7 +95,7 @@ impl Question<'_, '_> {
 
     // A judgement that is turned down for another cause than the cells leaves them as they were.
     pub fn check_bar<G: Measured>(&self, fault: JudgeFault) -> Result<(), Mismatch>
-        ensures { IfOk result (λ u. Judges G.kind G.value (state_of self.now.job.now) (table_of self.now.rule.now) self.now.tick 8 (Err fault)) }
+        ensures { IfOk result (λ u. JudgeAnswers G.kind G.value (state_of self.now.job.now) (table_of self.now.rule.now) self.now.tick 8 (Err fault)) }
     {
         let mut cells = blanks::<Piece<Range<G>>>(self.heap, 8)?;
         let answer = self.judge::<G>(cells.as_mut_slice());

@@ -4,7 +4,7 @@ ghost use Rattle.rules.specs.Texts.{table_of};
 ghost use Rattle.jobs.specs.Jobs.{state_of};
 ghost use Rattle.reference.specs.Tables.{value_at};
 ghost use Rattle.compare.specs.Rooms.{written_marks};
-ghost use Rattle.compare.specs.Found.{NeedsRoom, Found};
+ghost use Rattle.compare.specs.Found.{NeedsRoom, SameMarking};
 
 use crate::cells::{Measured, ends_of, hold, written};
 use crate::judging::ROW_CELLS;
@@ -97,7 +97,7 @@ impl Question<'_, '_> {
 
     // The marking, where all that is marked with room to spare, with just enough cells and with one less of each kind is as the reference has it.
     pub fn check_mark<G: Measured>(&self, values: &Values) -> Result<Whole<G>, Mismatch>
-        ensures { IfOk result (λ whole. Found G.kind G.value (state_of self.now.job.now) (table_of self.now.rule.now) self.now.tick G.number (record { rows = 2048; wants = 4096; marks = 1024 }) values.now whole.verdict whole.lent.marks.items whole.used.marks) }
+        ensures { IfOk result (λ whole. SameMarking G.kind G.value (state_of self.now.job.now) (table_of self.now.rule.now) self.now.tick G.number (record { rows = 2048; wants = 4096; marks = 1024 }) values.now whole.verdict whole.lent.marks.items whole.used.marks) }
     {
         let mut lent = Lent::<G>::blank(self.heap, AMPLE)?;
         let Ok(marking) = lent.mark(self) else {

@@ -5,9 +5,9 @@ use Rattle.std.proofs.lemmas.List.FromFn.{length-map-range_with_len, get_or-map-
 use Rattle.pieces.specs.declared.piece.Piece.{Piece}
 use Rattle.meaning.specs.declared.reading.Reading.{Reading}
 use Rattle.jobs.specs.declared.held.Held.{Held}
-use Rattle.jobs.specs.Lines.{part, held_pieces, held_state}
+use Rattle.jobs.specs.Lines.{cells_from, held_pieces, held_state}
 
-pub length_part : {X : Type 0} (cells : List X) (base n : ℕ) → base + n ≤ length cells → length (part cells base n) ≡ n
+pub length_part : {X : Type 0} (cells : List X) (base n : ℕ) → base + n ≤ length cells → length (cells_from cells base n) ≡ n
 length_part cells base n h = search (rules, places)
 
 module _ (cells : List (Piece Reading)) (h : Held) where

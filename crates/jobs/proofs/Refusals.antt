@@ -4,25 +4,25 @@ use borrow.Author.Tests.{clash}
 use Rattle.rules.specs.Rows.{NumberFits}
 use Rattle.pieces.specs.declared.piece.Piece.{Piece}
 use Rattle.meaning.specs.declared.reading.Reading.{Reading}
-use Rattle.meaning.specs.Readings.{Ends, Reads, Within}
+use Rattle.meaning.specs.Readings.{ReadingEnds, ReadingWith, Within}
 use Rattle.meaning.proofs.Readings.{reading_same}
 use Rattle.runs.specs.States.{State, reading_at, readings_of}
 use Rattle.runs.specs.Conditions.{Condition, AllHold, FirstFailing}
 use Rattle.runs.proofs.Conditions.{none_failing, failing_behind}
-use Rattle.runs.specs.Jobs.{Narrows, Room, enter_asks}
+use Rattle.runs.specs.Jobs.{Narrows, FitsLine, enter_asks}
 use Rattle.jobs.specs.declared.fault.EnterFault.{EnterFault}
 use Rattle.jobs.specs.declared.fault.EnterFault.TheVariants.{Sealed, NoSuchLine, BadStretch, NotReading, NotInside, TooManyPieces}
 use Rattle.jobs.specs.declared.held.Held.{Held}
-use Rattle.jobs.specs.Faults.{fault_number}
+use Rattle.jobs.specs.Faults.{enter_fault_number}
 use Rattle.jobs.specs.Lines.{held_state}
 use Rattle.jobs.specs.Checks.{Barred, Ready}
 use Rattle.jobs.proofs.Parts.{length_lines}
 
 -- numbers have one reading
-pub one_reading : (lower upper : ℤ) (p q : Reading) → Reads lower upper (Some p) → Reads lower upper (Some q) → p ≡ q
+pub one_reading : (lower upper : ℤ) (p q : Reading) → ReadingWith lower upper (Some p) → ReadingWith lower upper (Some q) → p ≡ q
 one_reading lower upper p q r t = reading_same p q (r.0 ∙ sym t.0) (r.1 ∙ sym t.1)
 
-pub ends_of : (lower upper : ℤ) (p : Reading) → Reads lower upper (Some p) → Ends lower upper
+pub ends_of : (lower upper : ℤ) (p : Reading) → ReadingWith lower upper (Some p) → ReadingEnds lower upper
 ends_of lower upper p r = (
   subst NumberFits r.0 p.bottom,
   subst NumberFits r.1 p.top,
@@ -30,8 +30,8 @@ ends_of lower upper p r = (
 )
 
 -- the numbers as they were passed
-pub reads_as : (l u lower upper : ℤ) (o : Option Reading) → l ≡ lower → u ≡ upper → Reads l u o → Reads lower upper o
-reads_as l u lower upper o e f r = subst (λ z. Reads z upper o) e (subst (λ z. Reads l z o) f r)
+pub reads_as : (l u lower upper : ℤ) (o : Option Reading) → l ≡ lower → u ≡ upper → ReadingWith l u o → ReadingWith lower upper o
+reads_as l u lower upper o e f r = subst (λ z. ReadingWith z upper o) e (subst (λ z. ReadingWith l z o) f r)
 
 pub fails_as : (s : State) (line from to : ℕ) (l u lower upper : ℤ) (o : Option ℕ) → l ≡ lower → u ≡ upper → FirstFailing (enter_asks s line from to l u) o → FirstFailing (enter_asks s line from to lower upper) o
 fails_as s line from to l u lower upper o e f r =
@@ -46,7 +46,7 @@ module _ (cells : List (Piece Reading)) (h : Held) (line from to : ℕ) (lower u
   asked = enter_asks s line from to lower upper
 
   abbrev Fails : EnterFault → Type 0
-  Fails e = FirstFailing asked (Some (fault_number e))
+  Fails e = FirstFailing asked (Some (enter_fault_number e))
 
   pub barred_fails : (e : EnterFault) → Barred h line from to (Err e) → Fails e
   barred_fails Sealed b = inl (λ f. clash (sym f ∙ b), refl)
@@ -60,10 +60,10 @@ module _ (cells : List (Piece Reading)) (h : Held) (line from to : ℕ) (lower u
     there : line < length s.lines
     there = omega (arith, b.1, length_lines cells h)
 
-    pub fails_4 : (Ends lower upper → ⊥) → Fails NotReading
+    pub fails_4 : (ReadingEnds lower upper → ⊥) → Fails NotReading
     fails_4 n = failing_behind (take 3 asked) (drop 3 asked) (Some 4) (b.0, (there, ((b.2, b.3), tt))) (inl (n, refl))
 
-    module _ (p : Reading) (r : Reads lower upper (Some p)) (ps : List (Piece Reading)) (is : get_or s.lines line [] ≡ ps) where
+    module _ (p : Reading) (r : ReadingWith lower upper (Some p)) (ps : List (Piece Reading)) (is : get_or s.lines line [] ≡ ps) where
       -- the reading is inside what the line reads on the stretch
       abbrev Inside : List (Piece Reading) → Type 0
       Inside xs = (u : ℕ) → from ≤ u → u < to → Within p (reading_at xs u)
@@ -76,7 +76,7 @@ module _ (cells : List (Piece Reading)) (h : Held) (line from to : ℕ) (lower u
       is_ready i = record { unsealed = b.0; there = there; stretch = (b.2, b.3); narrows = subst Inside (sym is) i }
 
 -- an entry for which all but the last condition hold
-module _ (s : State) (line from to : ℕ) (lower upper : ℤ) (p : Reading) (r : Reads lower upper (Some p)) (ready : Ready s line from to p) where
+module _ (s : State) (line from to : ℕ) (lower upper : ℤ) (p : Reading) (r : ReadingWith lower upper (Some p)) (ready : Ready s line from to p) where
   narrow : Narrows s line from to lower upper
   narrow q t u a b = subst (λ z. Within z (readings_of s line u)) (one_reading lower upper p q r t) (ready.narrows u a b)
 
@@ -86,8 +86,8 @@ module _ (s : State) (line from to : ℕ) (lower upper : ℤ) (p : Reading) (r :
   first_five : AllHold (take 5 asks_of)
   first_five = (ready.unsealed, (ready.there, (ready.stretch, (ends_of lower upper p r, (narrow, tt)))))
 
-  pub fails_6 : (Room s line from to lower upper → ⊥) → FirstFailing asks_of (Some (fault_number TooManyPieces))
+  pub fails_6 : (FitsLine s line from to lower upper → ⊥) → FirstFailing asks_of (Some (enter_fault_number TooManyPieces))
   fails_6 n = failing_behind (take 5 asks_of) (drop 5 asks_of) (Some 6) first_five (inl (n, refl))
 
-  pub all_pass : Room s line from to lower upper → FirstFailing asks_of None
+  pub all_pass : FitsLine s line from to lower upper → FirstFailing asks_of None
   all_pass room = failing_behind (take 5 asks_of) (drop 5 asks_of) None first_five (none_failing (drop 5 asks_of) (room, tt))

@@ -10,7 +10,7 @@ use Rattle.pieces.proofs.Chains.{Chain, chain_rising, chain_behind, chain_at, to
 use Rattle.meaning.specs.declared.reading.Reading.{Reading}
 use Rattle.meaning.proofs.Readings.{entered_here, entered_elsewhere}
 use Rattle.runs.specs.States.{reading_at}
-use Rattle.jobs.specs.Edits.{Joins, Follows, optional, set_on}
+use Rattle.jobs.specs.Edits.{Joins, FollowsPieces, optional, set_on}
 use Rattle.jobs.proofs.Looks.{own_list}
 
 abbrev piece : ℕ → Reading → Piece Reading
@@ -76,7 +76,7 @@ module _ (f g : ℕ → Reading) (from to : ℕ) (v : Reading) (order : from < t
       (order, λ u a b. sym (sets.inside u a b))
       (chain_as f g (piece to w) (drop (count_before (to + 1) ps) ps) None (λ u a b. sym (sets.after u a)) (back f to p ps c h))
 
-  set_lists : (ps : List (Piece Reading)) (x y : Option (Piece Reading)) (d : Piece Reading) → Lists f ps → Follows (take (count_before from ps) ps) from v x → Joins to (get_or ps (count_before (to + 1) ps - 1) d).value v y →
+  set_lists : (ps : List (Piece Reading)) (x y : Option (Piece Reading)) (d : Piece Reading) → Lists f ps → FollowsPieces (take (count_before from ps) ps) from v x → Joins to (get_or ps (count_before (to + 1) ps - 1) d).value v y →
       Lists g (take (count_before from ps) ps ++ (optional x ++ (optional y ++ drop (count_before (to + 1) ps) ps)))
   set_lists [] x y d l fo j = absurd l.0
   set_lists (p ∷ ps) x y d l fo j =
@@ -91,21 +91,21 @@ module _ (f g : ℕ → Reading) (from to : ℕ) (v : Reading) (order : from < t
       (⊎_elim
       (λ (h : p.start < from).
       let one : count_before from (p ∷ ps) ≡ suc (count_before from ps) = count_yes from p ps h in
-      let fo' : Joins from v (last_from p.value (take (count_before from ps) ps)) x = subst (λ m. Follows (take m (p ∷ ps)) from v x) one fo in
+      let fo' : Joins from v (last_from p.value (take (count_before from ps) ps)) x = subst (λ m. FollowsPieces (take m (p ∷ ps)) from v x) one fo in
       subst (λ m. Lists g (take m (p ∷ ps) ++ (optional x ++ (optional y ++ drop n ps)))) (sym one)
       (chain_listed g p (take (count_before from ps) ps ++ (optional x ++ (optional y ++ drop n ps))) zero_start
       (join g p (take (count_before from ps) ps) from v x (optional y ++ drop n ps) None fo'
       (chain_as f g p (take (count_before from ps) ps) (Some from) (λ u a b. sym (sets.before u b)) (front f from p ps c h)) tl)))
       (λ (h : from ≤ p.start).
       let none : count_before from (p ∷ ps) ≡ 0 = count_no from p ps h in
-      let fo' : x ≡ Some (piece from v) = subst (λ m. Follows (take m (p ∷ ps)) from v x) none fo in
+      let fo' : x ≡ Some (piece from v) = subst (λ m. FollowsPieces (take m (p ∷ ps)) from v x) none fo in
       subst (λ m. Lists g (take m (p ∷ ps) ++ (optional x ++ (optional y ++ drop n ps)))) (sym none)
       (subst (λ o. Lists g (optional o ++ (optional y ++ drop n ps))) (sym fo')
       (chain_listed g (piece from v) (optional y ++ drop n ps) (omega arith) tl)))
       (cases_lt p.start from))
 
 -- the piece behind the first ones, by the last of these
-pub follows_is : (ps : List (Piece Reading)) (keep : ℕ) (d : Piece Reading) (t : ℕ) (v : Reading) (x : Option (Piece Reading)) → (keep ≡ 0 → ⊥) → keep ≤ length ps → Joins t v (get_or ps (keep - 1) d).value x → Follows (take keep ps) t v x
+pub follows_is : (ps : List (Piece Reading)) (keep : ℕ) (d : Piece Reading) (t : ℕ) (v : Reading) (x : Option (Piece Reading)) → (keep ≡ 0 → ⊥) → keep ≤ length ps → Joins t v (get_or ps (keep - 1) d).value x → FollowsPieces (take keep ps) t v x
 follows_is ps zero d t v x n h j = absurd (n refl)
 follows_is [] (suc i) d t v x n h j = absurd (omega arith)
 follows_is (p ∷ ps) (suc i) d t v x n h j =
@@ -120,9 +120,9 @@ set_on_sets ps from to v = record {
 }
 
 pub plan_lists : (ps : List (Piece Reading)) (from to keep skip : ℕ) (v : Reading) (x y : Option (Piece Reading)) (d : Piece Reading) → Canonical ps → from < to → keep ≡ count_before from ps → skip ≡ count_before (to + 1) ps →
-    Follows (take keep ps) from v x → Joins to (get_or ps (skip - 1) d).value v y → Lists (set_on ps from to v) (take keep ps ++ (optional x ++ (optional y ++ drop skip ps)))
+    FollowsPieces (take keep ps) from v x → Joins to (get_or ps (skip - 1) d).value v y → Lists (set_on ps from to v) (take keep ps ++ (optional x ++ (optional y ++ drop skip ps)))
 plan_lists ps from to keep skip v x y d c order ke se fo j =
-    let fo' = subst (λ k. Follows (take k ps) from v x) ke fo in
+    let fo' = subst (λ k. FollowsPieces (take k ps) from v x) ke fo in
     let j' = subst (λ k. Joins to (get_or ps (k - 1) d).value v y) se j in
     let l = set_lists (reading_at ps) (set_on ps from to v) from to v order (set_on_sets ps from to v) ps x y d (own_list ps c) fo' j' in
     subst (λ k. Lists (set_on ps from to v) (take k ps ++ (optional x ++ (optional y ++ drop skip ps)))) (sym ke)

@@ -11,11 +11,11 @@ use Rattle.meaning.specs.declared.reading.Reading.{Reading}
 use Rattle.meaning.specs.Readings.{entered}
 use Rattle.meaning.proofs.Readings.{entered_elsewhere}
 use Rattle.runs.specs.States.{State, reading_at, readings_of}
-use Rattle.runs.specs.Jobs.{enter, JobAnswer, accepted, Room, counted, JobTurn}
+use Rattle.runs.specs.Jobs.{enter, JobAnswer, accepted, FitsLine, counted, JobTurn}
 use Rattle.jobs.specs.declared.edit.Edit.{Edit}
 use Rattle.jobs.specs.declared.held.Held.{Held}
 use Rattle.jobs.specs.declared.held.LineNote.{LineNote}
-use Rattle.jobs.specs.Lines.{part, no_note, noted_count, held_pieces, held_state}
+use Rattle.jobs.specs.Lines.{cells_from, no_note, noted_count, held_pieces, held_state}
 use Rattle.jobs.specs.Entries.{Changes}
 use Rattle.jobs.specs.Holds.{Kept, AllKept, HeldSound}
 use Rattle.jobs.specs.Checks.{Ready}
@@ -84,12 +84,12 @@ module _ (cells : List (Piece Reading)) (h : Held) (sound : HeldSound cells h) (
   count_other k n = ap (λ (n : LineNote). n.count) (get_or-set_other h.notes line k note no_note n)
 
   here : held_pieces after now line ≡ es
-  here = ap (part after (64 * line)) count_here ∙ part_written cells (64 * line) es fits
+  here = ap (cells_from after (64 * line)) count_here ∙ part_written cells (64 * line) es fits
 
   other : (k : ℕ) → k < h.lines → (k ≡ line → ⊥) → held_pieces after now k ≡ held_pieces cells h k
   other k l n =
       let m = noted_count h k in
-      ap (part after (64 * k)) (count_other k n) ∙ ⊎_elim
+      ap (cells_from after (64 * k)) (count_other k n) ∙ ⊎_elim
       (λ (b : k < line).
       sym (drop-take (64 * k) m after) ∙ ap (drop (64 * k)) (take_written cells (64 * line) es fits (64 * k + m) (omega (arith, sound.short k l))) ∙ drop-take (64 * k) m cells)
       (λ (b : line ≤ k). ap (take m) (drop_written cells (64 * line) es fits (64 * k) (omega arith)))
@@ -129,13 +129,13 @@ module _ (s : State) (line from to : ℕ) (p : Reading) (ready : Ready s line fr
       lists_as (set_on ps from to p) (entered (readings_of s) line from to p line) es
       (λ t. ap₂ (λ b xs. cond (b && leb from t && ltb t to) p (reading_at xs t)) (sym (eq-eqb line line refl)) (sym is)) l
 
-  pub room : length es ≤ 64 → Room s line from to p.lower p.upper
+  pub room : length es ≤ 64 → FitsLine s line from to p.lower p.upper
   room h q qs set =
       let e : q ≡ p = one_reading p.lower p.upper q p set.0 (refl, refl) in
       let same : qs ≡ es = only_one Reading (entered (readings_of s) line from to p line) qs es (subst (λ (z : Reading). Lists (entered (readings_of s) line from to z line) qs) e set.1) set_listed in
       subst (λ xs. length xs ≤ 64) (sym same) h
 
-  pub no_room : 64 < length es → Room s line from to p.lower p.upper → ⊥
+  pub no_room : 64 < length es → FitsLine s line from to p.lower p.upper → ⊥
   no_room h r = let k = r p es ((refl, refl), set_listed) in omega arith
 
 -- nothing is known behind the last tick of an entry either

@@ -2,7 +2,7 @@
 use Rattle.std.proofs.Common.{◌≡◌, ℕ, suc, ◌+◌, ◌-◌, ◌<◌, ◌≤◌, List, [], ◌∷◌, ◌++◌, length, take, drop, set, sym, refl, ap, ◌∙◌, ap₂, append_assoc, arith, take-add}
 use lib.Seq.{paste}
 use Rattle.std.proofs.lemmas.List.{length-append, length-take-le, length-drop, take-append-drop, take_at, drop_at, take-take, drop-drop, drop-take, set_split}
-use Rattle.jobs.specs.Lines.{part}
+use Rattle.jobs.specs.Lines.{cells_from}
 use Rattle.jobs.specs.Edits.{written}
 
 module _ {X : Type 0} where
@@ -16,7 +16,7 @@ module _ {X : Type 0} where
     drop_start = drop_at (take a xs) (ys ++ drop (a + length ys) xs) a (length-take-le a xs (omega arith))
 
     -- what was written
-    pub part_written : part (written xs a ys) a (length ys) ≡ ys
+    pub part_written : cells_from (written xs a ys) a (length ys) ≡ ys
     part_written = ap (take (length ys)) drop_start ∙ take_at ys (drop (a + length ys) xs) (length ys) refl
 
     drop_end : drop (a + length ys) (written xs a ys) ≡ drop (a + length ys) xs
@@ -76,7 +76,7 @@ module _ {X : Type 0} where
       append_assoc (take a xs) (take n s) (drop (a + n) xs) ∙ ap (λ m. take a xs ++ (take n s ++ drop (a + m) xs)) (sym (length-take-le n s h))
 
   -- parts by their own parts
-  pub drop_part : (xs : List X) (base count k : ℕ) → k ≤ count → drop k (part xs base count) ≡ take (count - k) (drop (base + k) xs)
+  pub drop_part : (xs : List X) (base count k : ℕ) → k ≤ count → drop k (cells_from xs base count) ≡ take (count - k) (drop (base + k) xs)
   drop_part xs base count k h =
       let e : count ≡ k + (count - k) = omega arith in
       ap (λ m. drop k (take m (drop base xs))) e ∙ drop-take k (count - k) (drop base xs) ∙ ap (take (count - k)) (drop-drop k base xs)
@@ -85,10 +85,10 @@ module _ {X : Type 0} where
   pub spliced : (xs : List X) (base count i k : ℕ) (fs gs c0 c1 c2 : List X) (m n next : ℕ) → i ≤ k → k ≤ count → base + count ≤ length xs → base + (i + length fs + length gs + (count - k)) ≤ length xs →
       m ≡ length fs → n ≡ length gs → c0 ≡ paste xs (base + i + (m + n)) (drop (base + k) xs) ((base + count) - (base + k)) →
       c1 ≡ written c0 (base + i) fs → next ≡ base + i + length fs → c2 ≡ written c1 next gs →
-      c2 ≡ written xs base (take i (part xs base count) ++ (fs ++ (gs ++ drop k (part xs base count))))
+      c2 ≡ written xs base (take i (cells_from xs base count) ++ (fs ++ (gs ++ drop k (cells_from xs base count))))
   spliced xs base count i k fs gs c0 c1 c2 m n next ik kc fits room me ne e0 e1 en e2 =
       let a : ℕ = base + i in
-      let t : List X = drop k (part xs base count) in
+      let t : List X = drop k (cells_from xs base count) in
       let rest : (base + count) - (base + k) ≡ count - k = omega arith in
       let lt : length t ≡ count - k = ap length (drop_part xs base count k kc) ∙ length-take-le (count - k) (drop (base + k) xs) (omega (arith, length-drop (base + k) xs)) in
       let lfg : length (fs ++ gs) ≡ length fs + length gs = length-append fs gs in

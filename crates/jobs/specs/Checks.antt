@@ -1,7 +1,7 @@
 -- An entry on its way: what has been seen to hold of it.
 use Rattle.std.specs.Prelude.{◌≡◌, ℕ, ◌<◌, ◌≤◌, true, false, length, ℤ, Some, Ok, Err, Result}
 use Rattle.meaning.specs.declared.reading.Reading.{Reading}
-use Rattle.meaning.specs.Readings.{Reads, Within}
+use Rattle.meaning.specs.Readings.{ReadingWith, Within}
 use Rattle.runs.specs.Bounds.{last_end}
 use Rattle.runs.specs.States.{State, readings_of}
 use Rattle.runs.specs.Conditions.{FirstFailing}
@@ -9,7 +9,7 @@ use Rattle.runs.specs.Jobs.{enter_asks}
 use Rattle.jobs.specs.declared.fault.EnterFault.{EnterFault}
 use Rattle.jobs.specs.declared.fault.EnterFault.TheVariants.{Sealed, NoSuchLine, BadStretch, NotReading, NotInside, TooManyPieces}
 use Rattle.jobs.specs.declared.held.Held.{Held}
-use Rattle.jobs.specs.Faults.{fault_number}
+use Rattle.jobs.specs.Faults.{enter_fault_number}
 
 -- the job is not sealed, it has the line, and the ticks are a stretch; or the first of these that fails
 abbrev pub Barred : Held → ℕ → ℕ → ℕ → Result (Unit {0}) EnterFault → Type 0
@@ -30,5 +30,5 @@ pub record Ready (s : State) (line from to : ℕ) (p : Reading) : Type 0 where
 
 -- the reading to be entered, or the number of the condition that fails
 abbrev pub Checked : State → ℕ → ℕ → ℕ → ℤ → ℤ → Result Reading EnterFault → Type 0
-Checked s line from to lower upper (Ok p) = Reads lower upper (Some p) × Ready s line from to p
-Checked s line from to lower upper (Err e) = FirstFailing (enter_asks s line from to lower upper) (Some (fault_number e))
+Checked s line from to lower upper (Ok p) = ReadingWith lower upper (Some p) × Ready s line from to p
+Checked s line from to lower upper (Err e) = FirstFailing (enter_asks s line from to lower upper) (Some (enter_fault_number e))

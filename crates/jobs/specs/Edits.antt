@@ -21,9 +21,9 @@ Joins t v before None = before ≡ v
 Joins t v before (Some p) = (p ≡ record { start = t; value = v }) × (before ≢ v)
 
 -- the same behind a list, where there may be nothing before
-abbrev pub Follows : List (Piece Reading) → ℕ → Reading → Option (Piece Reading) → Type 0
-Follows [] t v o = o ≡ Some (record { start = t; value = v })
-Follows (p ∷ ps) t v o = Joins t v (last_from p.value ps) o
+abbrev pub FollowsPieces : List (Piece Reading) → ℕ → Reading → Option (Piece Reading) → Type 0
+FollowsPieces [] t v o = o ≡ Some (record { start = t; value = v })
+FollowsPieces (p ∷ ps) t v o = Joins t v (last_from p.value ps) o
 
 abbrev pub optional : Option (Piece Reading) → List (Piece Reading)
 optional None = []

@@ -8,17 +8,17 @@ use Rattle.jobs.specs.declared.fault.NoSuchLine.{NoSuchLine as NoLine}
 abbrev pub missing_line_number : NoLine → ℕ
 missing_line_number e = 2
 
-abbrev pub fault_number : EnterFault → ℕ
-fault_number Sealed = 1
-fault_number NoSuchLine = missing_line_number (record {})
-fault_number BadStretch = 3
-fault_number NotReading = 4
-fault_number NotInside = 5
-fault_number TooManyPieces = 6
+abbrev pub enter_fault_number : EnterFault → ℕ
+enter_fault_number Sealed = 1
+enter_fault_number NoSuchLine = missing_line_number (record {})
+enter_fault_number BadStretch = 3
+enter_fault_number NotReading = 4
+enter_fault_number NotInside = 5
+enter_fault_number TooManyPieces = 6
 
 abbrev pub enter_reply : Result (Unit {0}) EnterFault → Result JobAnswer ℕ
 enter_reply (Ok u) = Ok accepted
-enter_reply (Err e) = Err (fault_number e)
+enter_reply (Err e) = Err (enter_fault_number e)
 
 abbrev pub known_reply : Result ℕ NoLine → Result JobAnswer ℕ
 known_reply (Ok t) = Ok (first_unknown t)

@@ -1,13 +1,13 @@
 // The numbers by which users know the refusals.
 ghost use Rattle.std.specs.Prelude.{◌≡◌};
-ghost use Rattle.jobs.specs.Faults.{fault_number, missing_line_number};
+ghost use Rattle.jobs.specs.Faults.{enter_fault_number, missing_line_number};
 
 use crate::fault::{EnterFault, NoSuchLine};
 
 impl EnterFault {
     /// From 1 to 6, in the order of the cases.
     pub fn number(self) -> u8
-        ensures { result ≡ fault_number self }
+        ensures { result ≡ enter_fault_number self }
     {
         match self {
             EnterFault::Sealed => 1,

@@ -1,7 +1,7 @@
 // Planning how a line's pieces change where a reading is set.
 ghost use Rattle.std.specs.Prelude.{◌≡◌, ◌+◌, ◌<◌, ◌≤◌, length, take};
 ghost use Rattle.pieces.specs.Pieces.{count_before, Canonical, Lists};
-ghost use Rattle.jobs.specs.Edits.{Joins, Follows, set_on, edited};
+ghost use Rattle.jobs.specs.Edits.{Joins, FollowsPieces, set_on, edited};
 
 use crate::edit::Edit;
 use meaning::reading::Reading;
@@ -27,7 +27,7 @@ fn following(
     value: Reading,
 ) -> Option<Piece<Reading>>
     requires { keep ≤ length pieces.now }
-    ensures { Follows (take keep pieces.now) start value result }
+    ensures { FollowsPieces (take keep pieces.now) start value result }
 {
     if keep == 0 {
         return Some(Piece { start, value });

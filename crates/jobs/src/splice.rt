@@ -1,7 +1,7 @@
 // Making an edit in place.
 ghost use Rattle.std.specs.Prelude.{◌≡◌, ◌+◌, ◌≤◌, length};
 ghost use Rattle.runs.specs.Bounds.{line_cells};
-ghost use Rattle.jobs.specs.Lines.{part};
+ghost use Rattle.jobs.specs.Lines.{cells_from};
 ghost use Rattle.jobs.specs.Edits.{written, optional, edited, edited_size};
 
 use crate::edit::Edit;
@@ -45,7 +45,7 @@ pub(crate) fn splice(cells: &mut [Piece<Reading>], base: usize, count: usize, ed
     requires order { (edit.keep ≤ edit.skip) × (edit.skip ≤ count) }
     requires before { base + count ≤ length cells.old }
     requires after { base + edited_size edit count ≤ length cells.old }
-    ensures { cells.new ≡ written cells.old base (edited (part cells.old base count) edit) }
+    ensures { cells.new ≡ written cells.old base (edited (cells_from cells.old base count) edit) }
 {
     let at = base + edit.keep;
     let more = size(edit.first) + size(edit.second);

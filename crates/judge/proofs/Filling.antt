@@ -6,7 +6,7 @@ use Rattle.grades.specs.Ranges.{Span, spans}
 use Rattle.grades.specs.Worth.{worth}
 use Rattle.grades.specs.declared.range.Range.{Range}
 use Rattle.pieces.specs.declared.piece.Piece.{Piece}
-use Rattle.pieces.specs.Cells.{shown, Whole, Short}
+use Rattle.pieces.specs.Cells.{shown, CellsWhole, CellsShort}
 use Rattle.pieces.specs.Ticks.{Settles, Steady}
 use Rattle.pieces.proofs.Steadies.{before_self}
 use Rattle.rules.specs.declared.row.Row.{Row}
@@ -19,8 +19,8 @@ use Rattle.meaning.proofs.Rows.{value_is}
 use Rattle.meaning.proofs.Related.{Keeps, step_related}
 use Rattle.runs.specs.Calls.{all}
 use Rattle.judge.specs.Signals.{heard}
-use Rattle.judge.specs.Places.{list_at, told, Stands, Ready}
-use Rattle.judge.specs.Cells.{Complete, CutShort}
+use Rattle.judge.specs.Places.{list_at, list_says, ListStands, RowReady}
+use Rattle.judge.specs.Cells.{Complete, RowsRunOut}
 use Rattle.judge.specs.Judges.{BeginAt}
 use Rattle.judge.specs.Markings.{RangesStand}
 use Rattle.judge.proofs.Stacks.{below_lies, below_heard}
@@ -50,38 +50,38 @@ module _ (K : Kind) {G : Type 0} (val : G → K.Value) (rows : List Row) (x : Re
   module _ (first : List (Piece (Range G))) (k : ℕ) (begins : List ℕ) (cells : List (Piece (Range G))) (used : ℕ) (F : Filled first k begins cells used) where
     -- a row behind the first ones
     module _ (sound : Sound rows) (more : k < length rows) (row : Row) (at : row ≡ row_at rows k) where
-      pub filled_ready : Ready row begins (take used cells)
+      pub filled_ready : RowReady row begins (take used cells)
       filled_ready =
-          subst (λ r. Ready r begins (take used cells)) (sym at) record {
+          subst (λ r. RowReady r begins (take used cells)) (sym at) record {
             fits = sound.fits k more;
             children = λ c child.
                 let lt = sound.earlier k c more child in
                 record { known = omega (arith, F.room, sound.few); lies = below_lies (worth K val) values_of F.lists begins cells used F.stacked c (omega (arith, F.many)) };
           }
 
-      row_is : step (ranges K) x (told K val begins (take used cells)) row ≡ values_of k
+      row_is : step (ranges K) x (list_says K val begins (take used cells)) row ≡ values_of k
       row_is =
           fun_ext (λ t.
-          ap (λ r. step (ranges K) x (told K val begins (take used cells)) r t) at
-          ∙ step_related (same_kept K) x x (λ l u. refl) (told K val begins (take used cells)) values_of (row_at rows k) (sound.fits k more)
+          ap (λ r. step (ranges K) x (list_says K val begins (take used cells)) r t) at
+          ∙ step_related (same_kept K) x x (λ l u. refl) (list_says K val begins (take used cells)) values_of (row_at rows k) (sound.fits k more)
           (λ c child u. let lt = sound.earlier k c more child in below_heard (worth K val) values_of F.lists begins cells used F.stacked (spans K).lowest c (omega (arith, F.many)) u) t
           ∙ sym (value_is (ranges K) x {rows = rows} sound k more t))
 
       -- its list fits
-      pub filled_more : (after : List (Piece (Range G))) → length after ≡ length cells → (n : ℕ) → Whole (worth K val) (step (ranges K) x (told K val begins (take used cells)) row) cells used after n →
+      pub filled_more : (after : List (Piece (Range G))) → length after ≡ length cells → (n : ℕ) → CellsWhole (worth K val) (step (ranges K) x (list_says K val begins (take used cells)) row) cells used after n →
           Filled first (k + 1) (set begins (k + 1) n) after n
       filled_more after kept n whole =
           let few : k < 64 = omega (arith, sound.few) in
-          fills.filled_next (worth K val) values_of first k begins cells used F few after kept n (subst (λ f. Whole (worth K val) f cells used after n) row_is whole)
+          fills.filled_next (worth K val) values_of first k begins cells used F few after kept n (subst (λ f. CellsWhole (worth K val) f cells used after n) row_is whole)
 
       -- it does not
       module _ (L : Lawful K) (settles : (l : ℕ) → Settles (x l)) where
-        pub filled_short : (after : List (Piece (Range G))) → length after ≡ length cells → length cells ≡ length first → Short (worth K val) (step (ranges K) x (told K val begins (take used cells)) row) cells used after →
-            (pss : List (List (Piece (Span K.Value)))) × CutShort K val rows x first after pss
+        pub filled_short : (after : List (Piece (Range G))) → length after ≡ length cells → length cells ≡ length first → CellsShort (worth K val) (step (ranges K) x (list_says K val begins (take used cells)) row) cells used after →
+            (pss : List (List (Piece (Span K.Value)))) × RowsRunOut K val rows x first after pss
         filled_short after kept size short =
             let pss = (row_lists K x settles sound).0 in
             let full = (row_lists K x settles sound).1 in
-            let out = fills.filled_out (worth K val) values_of first k begins cells used F pss (omega (arith, full.many)) (λ i h. full.each i (omega (arith, full.many))) after kept size (subst (λ f. Short (worth K val) f cells used after) row_is short) in
+            let out = fills.filled_out (worth K val) values_of first k begins cells used F pss (omega (arith, full.many)) (λ i h. full.each i (omega (arith, full.many))) after kept size (subst (λ f. CellsShort (worth K val) f cells used after) row_is short) in
             (pss, record { listed = full; longer = out.0; beginning = out.1 })
 
     -- behind the last row
@@ -105,11 +105,11 @@ module _ (K : Kind) {G : Type 0} (val : G → K.Value) (rows : List Row) (x : Re
     pub complete_standing : RangesStand K rows x val begins after
     complete_standing = record { lists = pss; listed = C.listed; written = C.written; fits = omega (arith, C.fits); begin = B }
 
-    pub complete_stands : (c : ℕ) → c < length rows → Stands begins after c
+    pub complete_stands : (c : ℕ) → c < length rows → ListStands begins after c
     complete_stands = row_stands K val rows x begins after complete_standing
 
     -- each row's list says what the row is worth
-    pub complete_told : (c : ℕ) → c < length rows → (t : ℕ) → told K val begins after c t ≡ values_of c t
+    pub complete_told : (c : ℕ) → c < length rows → (t : ℕ) → list_says K val begins after c t ≡ values_of c t
     complete_told = row_told K val rows x begins after complete_standing
 
     -- what is found in the last row's list is the verdict

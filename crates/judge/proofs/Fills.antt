@@ -3,7 +3,7 @@ use Rattle.std.proofs.Common.{◌≡◌, ℕ, ◌+◌, ◌<◌, List, [], ◌++�
 use Rattle.std.proofs.lemmas.List.{length-append, length-map, map-append, take_at, take_all, get_or-take, length-take-le, ext_get_or}
 use Rattle.pieces.specs.declared.piece.Piece.{Piece}
 use Rattle.pieces.specs.Pieces.{Lists}
-use Rattle.pieces.specs.Cells.{shown, meant, Whole, Short}
+use Rattle.pieces.specs.Cells.{shown, meant, CellsWhole, CellsShort}
 use Rattle.pieces.proofs.Chains.{only_one, extends}
 use Rattle.runs.specs.Calls.{all}
 use Rattle.judge.proofs.Stacks.{all_split, Stacked, none_yet, grown, grown_many, pushed, behind_kept}
@@ -22,7 +22,7 @@ module _ {V C : Type 0} (val : V → C) (f : ℕ → ℕ → C) where
 
   module _ (first : List (Piece V)) (k : ℕ) (begins : List ℕ) (cells : List (Piece V)) (used : ℕ) (F : Filled first k begins cells used) where
     -- the next list fits
-    pub filled_next : k < 64 → (after : List (Piece V)) → length after ≡ length cells → (n : ℕ) → Whole val (f k) cells used after n → Filled first (k + 1) (set begins (k + 1) n) after n
+    pub filled_next : k < 64 → (after : List (Piece V)) → length after ≡ length cells → (n : ℕ) → CellsWhole val (f k) cells used after n → Filled first (k + 1) (set begins (k + 1) n) after n
     filled_next few after kept n w = record {
       lists = grown val f F.lists begins cells used F.stacked k F.many after kept n w;
       many = grown_many val f F.lists begins cells used F.stacked k F.many after kept n w;
@@ -32,7 +32,7 @@ module _ {V C : Type 0} (val : V → C) (f : ℕ → ℕ → C) where
     }
 
     -- it does not, so the cells are full of the beginning of all lists
-    pub filled_out : (pss : List (List (Piece C))) → k < length pss → ((i : ℕ) → i < length pss → Lists (f i) (get_or pss i [])) → (after : List (Piece V)) → length after ≡ length cells → length cells ≡ length first → Short val (f k) cells used after →
+    pub filled_out : (pss : List (List (Piece C))) → k < length pss → ((i : ℕ) → i < length pss → Lists (f i) (get_or pss i [])) → (after : List (Piece V)) → length after ≡ length cells → length cells ≡ length first → CellsShort val (f k) cells used after →
         (length first < length (all pss)) × (shown val after ≡ take (length first) (all pss))
     filled_out pss kp each after kept size s =
         let qss = F.lists in

@@ -17,7 +17,7 @@ use Rattle.meaning.specs.Values.{value}
 use Rattle.meaning.specs.Verdicts.{ranges}
 use Rattle.meaning.specs.Wants.{Wanted}
 use Rattle.runs.specs.Calls.{all}
-use Rattle.judge.specs.Places.{list_at, Stands}
+use Rattle.judge.specs.Places.{list_at, ListStands}
 use Rattle.judge.specs.Children.{is_test, said, asks_at}
 use Rattle.judge.specs.Marks.{MarkedRows}
 use Rattle.judge.specs.Cells.{BeginsWith, RunsOut}
@@ -75,7 +75,7 @@ module _ (K : Kind) (rows : List Row) (x : Readings) (tick : ℕ) (starts : List
     holds = plain (take (length (all W.lists)) wants) ∙ W.written;
   }
 
-  pub wants_stand : (k : ℕ) → k < length rows → Stands starts wants (length rows - 1 - k)
+  pub wants_stand : (k : ℕ) → k < length rows → ListStands starts wants (length rows - 1 - k)
   wants_stand k h = record {
     known = omega (arith, W.begin.known, W.listed.many);
     lies = lies (λ (b : Bool). b) says W.lists starts wants (length (all W.lists)) wants_stacked (length rows - 1 - k) (omega (arith, W.listed.many));

@@ -11,7 +11,7 @@ use Rattle.meaning.specs.Readings.{Readings}
 use Rattle.meaning.specs.Values.{value}
 use Rattle.meaning.specs.Verdicts.{ranges}
 use Rattle.runs.specs.Calls.{all, RowLists}
-use Rattle.judge.specs.Cells.{Complete, CutShort}
+use Rattle.judge.specs.Cells.{Complete, RowsRunOut}
 
 module _ (K : Kind) (rows : List Row) (x : Readings) where
   abbrev ListsOfRows : Type 0
@@ -27,5 +27,5 @@ module _ (K : Kind) (rows : List Row) (x : Readings) where
     pub complete_fits : Complete K val rows x before after pss → (qss : ListsOfRows) → RowLists K rows x qss → length (all qss) ≤ length before
     complete_fits c qss q = subst (λ zss. length (all zss) ≤ length before) (row_lists_one pss qss c.listed q) c.fits
 
-    pub cut_misfits : CutShort K val rows x before after pss → ((qss : ListsOfRows) → RowLists K rows x qss → length (all qss) ≤ length before) → ⊥
+    pub cut_misfits : RowsRunOut K val rows x before after pss → ((qss : ListsOfRows) → RowLists K rows x qss → length (all qss) ≤ length before) → ⊥
     cut_misfits c fits = let h = fits pss c.listed in omega (arith, c.longer)

@@ -3,11 +3,11 @@ use Rattle.std.proofs.Common.{◌≡◌, ℕ, zero, suc, pred, ◌+◌, ◌<◌,
 use Rattle.std.proofs.lemmas.Bool.{cases_eq}
 use Rattle.rules.specs.declared.row.Row.{Row}
 use Rattle.rules.specs.declared.row.Row.TheVariants.{Test, Not, And, Or, Eventually, Always, Until}
-use Rattle.rules.specs.Rows.{row_at, root, Child, Sound, row_reach_lem, reaches_from, reach}
+use Rattle.rules.specs.Rows.{row_at, root, Child, Sound, row_reach_by, reaches_from, reach}
 use Rattle.meaning.proofs.Rows.{reach_of, reach_is}
-use Rattle.judge.specs.Children.{far}
+use Rattle.judge.specs.Children.{window_end}
 
-window_near : (rs : List ℕ) (r : Row) → far r ≤ row_reach_lem rs r
+window_near : (rs : List ℕ) (r : Row) → window_end r ≤ row_reach_by rs r
 window_near rs (Test l s m) = omega arith
 window_near rs (Not a) = omega arith
 window_near rs (And a b) = omega arith
@@ -16,7 +16,7 @@ window_near rs (Eventually a b d) = omega arith
 window_near rs (Always a b d) = omega arith
 window_near rs (Until a b l r) = omega arith
 
-child_near : (rs : List ℕ) (r : Row) (c : ℕ) → Child r c → get_or rs c 0 ≤ row_reach_lem rs r
+child_near : (rs : List ℕ) (r : Row) (c : ℕ) → Child r c → get_or rs c 0 ≤ row_reach_by rs r
 child_near rs (Test l s m) c h = absurd h
 child_near rs (Not a) c h = rw h (omega arith)
 child_near rs (And a b) c h = elim h [ inl e ↦ rw e (omega arith) | inr e ↦ rw e (omega arith) ]
@@ -44,7 +44,7 @@ module _ (rows : List Row) (sound : Sound rows) where
       below : (k ≡ pred (length rows) → ⊥) → suc k < length rows
       below ne = ⊎_elim (λ (e : suc k ≡ length rows). absurd (ne (ap pred e))) (λ (n : suc k ≡ length rows → ⊥). omega arith) (cases_eq (suc k) (length rows))
 
-  pub far_near : (k : ℕ) → k < length rows → far (row_at rows k) ≤ reach rows
+  pub far_near : (k : ℕ) → k < length rows → window_end (row_at rows k) ≤ reach rows
   far_near k h =
       let a = window_near (reaches_from [] rows) (row_at rows k) in
       let e = reach_is sound k h in

@@ -15,9 +15,9 @@ use Rattle.meaning.specs.Values.{step, over}
 use Rattle.meaning.specs.Limits.{range_of}
 use Rattle.meaning.specs.Verdicts.{ranges}
 use Rattle.judge.specs.Signals.{heard, goal}
-use Rattle.judge.specs.Places.{list_at, told, Stands, Ready}
+use Rattle.judge.specs.Places.{list_at, list_says, ListStands, RowReady}
 
-pub stands : {V : Type 0} (row r : Row) (begins : List ℕ) (done : List (Piece V)) → Ready row begins done → row ≡ r → (c : ℕ) → Child r c → Stands begins done c
+pub stands : {V : Type 0} (row r : Row) (begins : List ℕ) (done : List (Piece V)) → RowReady row begins done → row ≡ r → (c : ℕ) → Child r c → ListStands begins done c
 stands row r begins done h e c k = h.children c (subst (λ q. Child q c) (sym e) k)
 
 module _ (K : Kind) {G : Type 0} (value : G → K.Value) (x : Readings) (begins : List ℕ) (done : List (Piece (Range G))) (row : Row) (t : ℕ) (v : Span K.Value) (o : Option ℕ) where
@@ -25,7 +25,7 @@ module _ (K : Kind) {G : Type 0} (value : G → K.Value) (x : Readings) (begins 
   at c = list_at begins done c
 
   abbrev Stepped : Row → Type 0
-  Stepped r = Steady (step (ranges K) x (told K value begins done) r) t v o
+  Stepped r = Steady (step (ranges K) x (list_says K value begins done) r) t v o
 
   pub test_row : (l : ℕ) (s : Side) (m : ℤ) (q : Reading) → row ≡ Test l s m → v ≡ range_of K s m q → Steady (x l) t q o → Stepped row
   unfolding step

@@ -14,12 +14,12 @@ use Rattle.meaning.specs.Values.{value}
 use Rattle.meaning.specs.Verdicts.{ranges}
 use Rattle.meaning.specs.Wants.{Wanted}
 use Rattle.rules.specs.Tested.{Tests}
-use Rattle.meaning.specs.Marks.{Lists, Marked, Marks}
+use Rattle.meaning.specs.Marks.{ListsStretches, Marked, Marks}
 use Rattle.meaning.proofs.Wanting.{wanted_below}
 use Rattle.meaning.proofs.Stretches.{Next as ChainNext, Chain, has_chain}
 use Rattle.meaning.proofs.Lists.{Upto as RowsBelow, lists_as, lists_none, lists_more}
 use Rattle.judge.specs.Children.{is_test}
-use Rattle.judge.specs.Marks.{Next, Upto, Stretches, SomeStretches, OfRow, OfRows, SomeOfRows}
+use Rattle.judge.specs.Marks.{NextStretch, Upto, Stretches, SomeStretches, OfRow, OfRows, SomeOfRows}
 use Rattle.meaning.proofs.Readings.{tells_as}
 use Rattle.judge.proofs.Anys.{tells_yes, tells_no}
 
@@ -49,7 +49,7 @@ module _ (P : ℕ → Type 0) (f : ℕ → Bool) (limit row : ℕ) (told : (u : 
   decided : (u : ℕ) → Dec (P u)
   decided u = ⊎_elim (λ (e : f u ≡ true). yes (tells_yes (P u) (f u) (told u) e)) (λ (e : f u ≡ false). no (λ p. both_ways (f u) e (said_yes u p))) (cases_Bool (f u))
 
-  next_chained : (s : ℕ) (m : Mark) → Next f limit row s m → ChainNext P row s m
+  next_chained : (s : ℕ) (m : Mark) → NextStretch f limit row s m → ChainNext P row s m
   next_chained s m n = record {
     of_row = n.of_row;
     from = n.from;
@@ -114,24 +114,24 @@ module _ (K : Kind) (rows : List Row) (sound : Sound rows) (x : Readings) (asked
       (λ (e : tests n ≡ false). ([], λ u l p. no_marks n e u p))
       (cases_Bool (tests n))
 
-  rows_list : (n : ℕ) → n ≤ length rows → (ms : List Mark) → OfRows tests asks (λ r. limit) n ms → Lists (RowsBelow P n) ms
-  rows_list zero le ms h = subst (λ zs. Lists (RowsBelow P 0) zs) (sym h) (lists_none P)
+  rows_list : (n : ℕ) → n ≤ length rows → (ms : List Mark) → OfRows tests asks (λ r. limit) n ms → ListsStretches (RowsBelow P n) ms
+  rows_list zero le ms h = subst (λ zs. ListsStretches (RowsBelow P 0) zs) (sym h) (lists_none P)
   rows_list (suc n) le ms h =
       let xs = h.0 in
       let ys = h.1.0 in
       let i = h.1.1 in
-      subst (λ zs. Lists (RowsBelow P (suc n)) zs) (sym i.0) (lists_more P n xs ys (rows_list n (omega arith) xs i.1) (row_chain n (omega arith) ys i.2))
+      subst (λ zs. ListsStretches (RowsBelow P (suc n)) zs) (sym i.0) (lists_more P n xs ys (rows_list n (omega arith) xs i.1) (row_chain n (omega arith) ys i.2))
 
-  rows_on : (d n : ℕ) → n + d ≡ length rows → (ms : List Mark) → Lists (RowsBelow P n) ms → (more : List Mark) × Lists (RowsBelow P (length rows)) (ms ++ more)
+  rows_on : (d n : ℕ) → n + d ≡ length rows → (ms : List Mark) → ListsStretches (RowsBelow P n) ms → (more : List Mark) × ListsStretches (RowsBelow P (length rows)) (ms ++ more)
   rows_on zero n e ms h =
       let is : n ≡ length rows = omega arith in
-      ([], subst (λ zs. Lists (RowsBelow P (length rows)) zs) (sym (append-nil ms)) (subst (λ j. Lists (RowsBelow P j) ms) is h))
+      ([], subst (λ zs. ListsStretches (RowsBelow P (length rows)) zs) (sym (append-nil ms)) (subst (λ j. ListsStretches (RowsBelow P j) ms) is h))
   rows_on (suc d) n e ms h =
       let c = row_there n (omega arith) in
       let r = rows_on d (suc n) (omega arith) (ms ++ c.0) (lists_more P n ms c.0 h c.1) in
-      (c.0 ++ r.0, subst (λ zs. Lists (RowsBelow P (length rows)) zs) (append_assoc ms c.0 r.0) r.1)
+      (c.0 ++ r.0, subst (λ zs. ListsStretches (RowsBelow P (length rows)) zs) (append_assoc ms c.0 r.0) r.1)
 
-  all_rows : (ms : List Mark) → Lists (RowsBelow P (length rows)) ms → Marks K rows x asked_at ms
+  all_rows : (ms : List Mark) → ListsStretches (RowsBelow P (length rows)) ms → Marks K rows x asked_at ms
   all_rows ms h = lists_as (λ k u p. p.1) (λ k u p. (wanted_below K sound (value (ranges K) rows x) asked_at k u p.wanted, p)) ms h
 
   pub marks_whole : (ms : List Mark) → OfRows (λ r. is_test (row_at rows r)) asks (λ r. limit) (length rows) ms → Marks K rows x asked_at ms

@@ -16,7 +16,7 @@ use Rattle.meaning.proofs.Bounded.{wanted_near}
 use Rattle.runs.specs.Calls.{TellsWanted}
 use Rattle.judge.specs.declared.trial.Trial.{Trial}
 use Rattle.judge.specs.declared.trial.Trial.TheVariants.{Loose, Lowest as OnlyLowest, Higher}
-use Rattle.judge.specs.Trials.{told, tried, asked}
+use Rattle.judge.specs.Trials.{dec_says, tried, asked}
 use Rattle.judge.specs.Children.{row_says, passed_on, Askable}
 use Rattle.judge.specs.Markings.{only_at, RangesStand}
 use Rattle.judge.proofs.Anys.{tells_yes, tells_from}
@@ -24,11 +24,11 @@ use Rattle.judge.proofs.Standing.{row_stands, row_told}
 use Rattle.judge.proofs.RowReaches.{far_near}
 use Rattle.judge.proofs.Wanting.{child_tells}
 
-told_is : {P : Type 0} (d : Dec P) → Tells (told d) P
+told_is : {P : Type 0} (d : Dec P) → Tells (dec_says d) P
 told_is (yes p) = p
 told_is (no n) = n
 
-told_not : {P : Type 0} (d : Dec P) → Tells (not (told d)) (¬ P)
+told_not : {P : Type 0} (d : Dec P) → Tells (not (dec_says d)) (¬ P)
 told_not (yes p) = λ n. n p
 told_not (no n) = n
 

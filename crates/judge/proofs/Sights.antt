@@ -3,7 +3,7 @@ use Rattle.std.proofs.Common.{◌≡◌, ℕ, suc, ◌+◌, ◌≤◌, Bool, tru
 use borrow.Author.Tests.{both_ways}
 use Rattle.std.proofs.lemmas.Bool.{and_parts, and_from, not-true, not_from_false, cases_Bool}
 use Rattle.judge.specs.Yes.{any}
-use Rattle.judge.specs.Reaches.{Sees, clear, sees, Holds, holds}
+use Rattle.judge.specs.Reaches.{Sees, clear, sees, HeldOver, held_over}
 use Rattle.judge.proofs.Anys.{any_from, any_some}
 
 module _ (dead : ℕ → Bool) where
@@ -38,7 +38,7 @@ module _ (asks dead : ℕ → Bool) (a b : ℕ) where
       and_from (asks t) _ s.wants (and_from (leb (t + a) w) _ (le-leb (t + a) w s.from) (and_from (leb w (t + b)) _ (le-leb w (t + b) s.to) (alive_clear dead t w s.alive)))
 
 module _ (asks dead need : ℕ → Bool) (a b : ℕ) where
-  pub holds_is : (t v : ℕ) → holds asks dead need a b t v ≡ true → Holds asks dead need a b t v
+  pub holds_is : (t v : ℕ) → held_over asks dead need a b t v ≡ true → HeldOver asks dead need a b t v
   holds_is t v e =
       let x = and_parts (leb t v) _ e in
       let r = any_some (λ w. leb v w && (need w && sees asks dead a b t w)) (suc (t + b)) x.1 in
@@ -47,7 +47,7 @@ module _ (asks dead need : ℕ → Bool) (a b : ℕ) where
       let z = and_parts (need w) (sees asks dead a b t w) y.1 in
       record { from = leb-true t v x.0; at = w; after = leb-true v w y.0; needs = z.0; seen = sees_is asks dead a b t w z.1 }
 
-  pub is_holds : (t v : ℕ) → Holds asks dead need a b t v → holds asks dead need a b t v ≡ true
+  pub is_holds : (t v : ℕ) → HeldOver asks dead need a b t v → held_over asks dead need a b t v ≡ true
   is_holds t v h =
       let w = h.at in
       and_from (leb t v) _ (le-leb t v h.from)

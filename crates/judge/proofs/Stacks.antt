@@ -4,10 +4,10 @@ use Rattle.std.proofs.lemmas.List.{append-nil, length-append, take_at, drop_at, 
 use Rattle.std.proofs.lemmas.Bool.{cases_eq}
 use Rattle.pieces.specs.declared.piece.Piece.{Piece}
 use Rattle.pieces.specs.Pieces.{at_from, ordered, Lists}
-use Rattle.pieces.specs.Cells.{shown, meant, Whole}
+use Rattle.pieces.specs.Cells.{shown, meant, CellsWhole}
 use Rattle.pieces.proofs.Shows.{canonical_ordered, lists_at, ordered_shown}
 use Rattle.runs.specs.Calls.{all}
-use Rattle.judge.specs.Places.{part, list_at, Lies}
+use Rattle.judge.specs.Places.{cells_between, list_at, Lies}
 
 module _ {X : Type 0} where
   all_append : (xss yss : List (List X)) → all (xss ++ yss) ≡ all xss ++ all yss
@@ -41,7 +41,7 @@ module _ {X : Type 0} where
       ap length (all_split xss c h) ∙ length-append (all (take c xss)) (q ++ r) ∙ ap (λ n. height xss c + n) (length-append q r) in
       omega (arith, e, height_next xss c h)
 
-  part_all : (xss : List (List X)) (c : ℕ) → c < length xss → part (height xss c) (height xss (c + 1)) (all xss) ≡ get_or xss c []
+  part_all : (xss : List (List X)) (c : ℕ) → c < length xss → cells_between (height xss c) (height xss (c + 1)) (all xss) ≡ get_or xss c []
   part_all xss c h =
       let a = all (take c xss) in
       let q = get_or xss c [] in
@@ -50,7 +50,7 @@ module _ {X : Type 0} where
       let w : length q ≡ n = omega (arith, height_next xss c h) in
       ap (λ zs. take n (drop (length a) zs)) (all_split xss c h) ∙ ap (take n) (drop_at a (q ++ r) (length a) refl) ∙ take_at q r n w
 
-  part_take : (xs : List X) (i j n : ℕ) → i ≤ j → j ≤ n → part i j (take n xs) ≡ part i j xs
+  part_take : (xs : List X) (i j n : ℕ) → i ≤ j → j ≤ n → cells_between i j (take n xs) ≡ cells_between i j xs
   part_take xs i j n ij jn =
       let e : n ≡ i + (n - i) = omega arith in
       ap (take (j - i)) (ap (λ m. drop i (take m xs)) e ∙ drop-take i (n - i) xs) ∙ take-take (j - i) (n - i) (drop i xs) (omega arith)
@@ -75,15 +75,15 @@ module _ {V C : Type 0} (val : V → C) (f : ℕ → ℕ → C) where
   }
 
   module _ (lists : List (List (Piece C))) (begins : List ℕ) (cells : List (Piece V)) (used : ℕ) (S : Stacked val f lists begins cells used) where
-    shown_part : (i j : ℕ) (xs : List (Piece V)) → shown val (part i j xs) ≡ part i j (shown val xs)
+    shown_part : (i j : ℕ) (xs : List (Piece V)) → shown val (cells_between i j xs) ≡ cells_between i j (shown val xs)
     shown_part i j xs = sym (take-map (meant val) (j - i) (drop i xs)) ∙ ap (take (j - i)) (sym (drop-map (meant val) i xs))
 
     below_shown : (c : ℕ) → c < length lists → shown val (list_at begins (take used cells) c) ≡ get_or lists c []
     below_shown c h =
         shown_part (get_or begins c 0) (get_or begins (c + 1) 0) (take used cells)
-        ∙ ap (part (get_or begins c 0) (get_or begins (c + 1) 0)) S.holds
-        ∙ ap (λ i. part i (get_or begins (c + 1) 0) (all lists)) (S.marks c (omega arith))
-        ∙ ap (λ j. part (height lists c) j (all lists)) (S.marks (c + 1) (omega arith))
+        ∙ ap (cells_between (get_or begins c 0) (get_or begins (c + 1) 0)) S.holds
+        ∙ ap (λ i. cells_between i (get_or begins (c + 1) 0) (all lists)) (S.marks c (omega arith))
+        ∙ ap (λ j. cells_between (height lists c) j (all lists)) (S.marks (c + 1) (omega arith))
         ∙ part_all lists c h
 
     -- each list lies in the cells that are used
@@ -120,7 +120,7 @@ module _ {V C : Type 0} (val : V → C) (f : ℕ → ℕ → C) where
     heard_at d c h t = ap (λ ps. at_from d (shown val ps) t) (sym (same_part c h)) ∙ below_heard d c h t
 
     -- one list more
-    module _ (k : ℕ) (is : length lists ≡ k) (after : List (Piece V)) (kept : length after ≡ length cells) (n : ℕ) (w : Whole val (f k) cells used after n) where
+    module _ (k : ℕ) (is : length lists ≡ k) (after : List (Piece V)) (kept : length after ≡ length cells) (n : ℕ) (w : CellsWhole val (f k) cells used after n) where
       abbrev new : List (Piece C)
       new = shown val w.pieces
 

@@ -2,13 +2,13 @@
 use Rattle.std.proofs.Common.{◌≡◌, ℕ, ◌<◌, ◌≤◌, Bool, true, false, List, [], ◌∷◌, ◌++◌, sym, refl, ap, ◌∙◌, subst, inl, inr, ⊎_elim, arith}
 use borrow.Author.Tests.{both_ways}
 use Rattle.std.proofs.lemmas.Bool.{cases_order, cases_Bool, cases_lt}
-use Rattle.judge.specs.Yes.{First}
-use Rattle.judge.specs.Marks.{NoneIn, Next, Upto, Stretches, Covered, StretchesCover, StretchesPinned}
+use Rattle.judge.specs.Yes.{FirstFrom}
+use Rattle.judge.specs.Marks.{NoneIn, NextStretch, Upto, Stretches, Covered, StretchesCover, StretchesPinned}
 use Rattle.meaning.specs.declared.mark.Mark.{Mark}
 
 module _ (f : ℕ → Bool) (limit row : ℕ) where
-  pub upto_push : (s e : ℕ) (ms : List Mark) (m : Mark) → Upto f limit row s ms e → Next f limit row e m → Upto f limit row s (ms ++ m ∷ []) m.after
-  upto_push s e [] m u n = (subst (λ k. Next f limit row k m) (sym u) n, refl)
+  pub upto_push : (s e : ℕ) (ms : List Mark) (m : Mark) → Upto f limit row s ms e → NextStretch f limit row e m → Upto f limit row s (ms ++ m ∷ []) m.after
+  upto_push s e [] m u n = (subst (λ k. NextStretch f limit row k m) (sym u) n, refl)
   upto_push s e (l ∷ ls) m u n = (u.0, upto_push l.after e ls m u.1 n)
 
   pub upto_all : (s e : ℕ) (ms : List Mark) → Upto f limit row s ms e → NoneIn f limit row e limit → Stretches f limit row s ms
@@ -16,7 +16,7 @@ module _ (f : ℕ → Bool) (limit row : ℕ) where
   upto_all s e (m ∷ ms) u n = (u.0, upto_all m.after e ms u.1 n)
 
   -- what two searches find is the next stretch
-  pub found_next : (e start after : ℕ) → First f true e limit start → start < limit → First f false start limit after → Next f limit row e (record { row = row; first = start; after = after })
+  pub found_next : (e start after : ℕ) → FirstFrom f true e limit start → start < limit → FirstFrom f false start limit after → NextStretch f limit row e (record { row = row; first = start; after = after })
   found_next e start after a lt b =
       let some : start < after = ⊎_elim (λ (q : start ≡ after). absurd (both_ways (f start) (ap f q ∙ b.here (omega arith)) (a.here lt))) (⊎_elim (λ (l : start < after). l) (λ (l : after < start). absurd (omega (arith, b.from)))) (cases_order start after) in
       record {
@@ -41,17 +41,17 @@ module _ (f : ℕ → Bool) (limit row : ℕ) where
   covered s (m ∷ ms) h u (inl c) = (omega (arith, h.0.within, c.1), h.0.yes u c.0 c.1)
   covered s (m ∷ ms) h u (inr c) = covered m.after ms h.1 u c
 
-  starts : (s : ℕ) (m n : Mark) → Next f limit row s m → Next f limit row s n → m.first < n.first → ⊥
+  starts : (s : ℕ) (m n : Mark) → NextStretch f limit row s m → NextStretch f limit row s n → m.first < n.first → ⊥
   starts s m n x y l = y.before m.first x.from l (x.yes m.first (omega arith) x.some)
 
-  ends : (s : ℕ) (m n : Mark) → Next f limit row s m → Next f limit row s n → m.first ≡ n.first → m.after < n.after → ⊥
+  ends : (s : ℕ) (m n : Mark) → NextStretch f limit row s m → NextStretch f limit row s n → m.first ≡ n.first → m.after < n.after → ⊥
   ends s m n x y e l =
       both_ways (f m.after) (x.over (omega (arith, y.within))) (y.yes m.after (omega (arith, x.some)) l)
 
-  none_next : (s : ℕ) (m : Mark) → NoneIn f limit row s limit → Next f limit row s m → ⊥
+  none_next : (s : ℕ) (m : Mark) → NoneIn f limit row s limit → NextStretch f limit row s m → ⊥
   none_next s m n x = n m.first x.from (omega (arith, x.some, x.within)) (x.yes m.first (omega arith) x.some)
 
-  one : (s : ℕ) (m n : Mark) → Next f limit row s m → Next f limit row s n → m ≡ n
+  one : (s : ℕ) (m n : Mark) → NextStretch f limit row s m → NextStretch f limit row s n → m ≡ n
   one s m n x y =
       let p : m.row ≡ n.row = x.of_row ∙ sym y.of_row in
       let q : m.first ≡ n.first = ⊎_elim (λ e. e) (⊎_elim (λ l. absurd (starts s m n x y l)) (λ l. absurd (starts s n m y x l))) (cases_order m.first n.first) in

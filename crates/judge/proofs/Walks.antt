@@ -5,8 +5,8 @@ use Rattle.std.proofs.lemmas.Bool.{cases_Bool, cases_lt, or_cases, or_parts}
 use Rattle.pieces.specs.Ticks.{Steady, sooner}
 use Rattle.pieces.proofs.Steadies.{steady_sooner, before_self}
 use Rattle.grades.specs.Kinds.{Tells}
-use Rattle.judge.specs.Yes.{any, Known, First, Clear, clip}
-use Rattle.judge.specs.Reaches.{Sees, sees, Seen, Holds, holds, Held, Ahead}
+use Rattle.judge.specs.Yes.{any, Known, FirstFrom, Clear, clip}
+use Rattle.judge.specs.Reaches.{Sees, sees, Seen, HeldOver, held_over, HeldBefore, Ahead}
 use Rattle.judge.proofs.Knowns.{clip_before, clip_later, clip_most}
 use Rattle.judge.proofs.Anys.{tells_some}
 use Rattle.judge.proofs.Sights.{sees_is, is_sees, holds_is, is_holds}
@@ -41,7 +41,7 @@ module _ (f : ℕ → Bool) where
       }
 
   -- before the first yes there is no
-  pub not_yet : (s e r : ℕ) → First f true s e r → (k : ℕ) → s ≤ k → k < r → f k ≡ false
+  pub not_yet : (s e r : ℕ) → FirstFrom f true s e r → (k : ℕ) → s ≤ k → k < r → f k ≡ false
   not_yet s e r h k a b = ⊎_elim (λ (x : f k ≡ true). absurd (h.none k a b x)) (λ x. x) (cases_Bool (f k))
 
 module _ (asks dead : ℕ → Bool) (a b limit u : ℕ) where
@@ -70,7 +70,7 @@ module _ (asks dead : ℕ → Bool) (a b limit u : ℕ) where
         (λ x. x)
         (cases_lt t s)
 
-    module _ (p : ℕ) (f : First asks true s (max limit s) p) where
+    module _ (p : ℕ) (f : FirstFrom asks true s (max limit s) p) where
       -- nor from before p
       later : (t w : ℕ) → u ≤ w → Sees asks dead a b t w → p ≤ t
       later t w l h = ⊎_elim (λ (x : t < p). absurd (f.none t (early t w l h) x h.wants)) (λ x. x) (cases_lt t p)
@@ -81,7 +81,7 @@ module _ (asks dead : ℕ → Bool) (a b limit u : ℕ) where
       pub seen_later : u < p + a → Known (Seen asks dead a b limit) u false (Some (p + a))
       seen_later h = (h, λ w l m x. omega (arith, later x.0 w l x.1.1, x.1.1.from))
 
-      pub seen_found : dead u ≡ false → a ≤ b → p < limit → p + a ≤ u → (q z : ℕ) (y : Bool) (o : Option ℕ) → Steady asks p y o → q ≡ clip o limit → First dead true u (q + b) z → Known (Seen asks dead a b limit) u true (Some z)
+      pub seen_found : dead u ≡ false → a ≤ b → p < limit → p + a ≤ u → (q z : ℕ) (y : Bool) (o : Option ℕ) → Steady asks p y o → q ≡ clip o limit → FirstFrom dead true u (q + b) z → Known (Seen asks dead a b limit) u true (Some z)
       seen_found alive ab pl pu q z y o st is d =
           let lt : p < q = subst (λ n. p < n) (sym is) (clip_later o limit p st.0 pl) in
           let le : q ≤ limit = subst (λ n. n ≤ limit) (sym is) (clip_most o limit) in
@@ -115,20 +115,20 @@ pub record Walked (asks dead need : ℕ → Bool) (a b limit u s p c : ℕ) : Ty
   pub lost : (t w : ℕ) → t < p → u ≤ w → need w ≡ true → Sees asks dead a b t w → ⊥
 
 module _ (asks dead need : ℕ → Bool) (a b limit u : ℕ) where
-  pub held_steady : (v : Bool) (o : Option ℕ) → Known (Held asks dead need a b limit) u v o → Steady (λ w. any (λ t. holds asks dead need a b t w) limit) u v o
+  pub held_steady : (v : Bool) (o : Option ℕ) → Known (HeldBefore asks dead need a b limit) u v o → Steady (λ w. any (λ t. held_over asks dead need a b t w) limit) u v o
   held_steady v o k = (
     k.0,
-    λ w l m. tells_some (λ t. Holds asks dead need a b t w) (λ t. holds asks dead need a b t w) limit v (λ t. holds_is asks dead need a b t w) (λ t. is_holds asks dead need a b t w) (k.1 w l m),
+    λ w l m. tells_some (λ t. HeldOver asks dead need a b t w) (λ t. held_over asks dead need a b t w) limit v (λ t. holds_is asks dead need a b t w) (λ t. is_holds asks dead need a b t w) (k.1 w l m),
   )
 
-  pub held_dead : (y : Bool) (o : Option ℕ) → Steady dead u y o → y ≡ true → Known (Held asks dead need a b limit) u false o
+  pub held_dead : (y : Bool) (o : Option ℕ) → Steady dead u y o → y ≡ true → Known (HeldBefore asks dead need a b limit) u false o
   held_dead y o st h = (
     st.0,
     λ w l m x. let s = x.1.1 in both_ways (dead w) (s.seen.alive w s.from s.after) (sym (st.1 w l m) ∙ h),
   )
 
   module _ (s : ℕ) (cl : Clear dead (u - b) u s) where
-    pub walked_first : (p : ℕ) → First asks true s (max limit s) p → Walked asks dead need a b limit u s p u
+    pub walked_first : (p : ℕ) → FirstFrom asks true s (max limit s) p → Walked asks dead need a b limit u s p u
     walked_first p f = record {
       from = f.from;
       asking = λ h. f.here (omega arith);
@@ -140,21 +140,21 @@ module _ (asks dead need : ℕ → Bool) (a b limit u : ℕ) where
     }
 
     module _ (p c : ℕ) (i : Walked asks dead need a b limit u s p c) where
-      pub held_later : u < p → Known (Held asks dead need a b limit) u false (Some p)
+      pub held_later : u < p → Known (HeldBefore asks dead need a b limit) u false (Some p)
       held_later h = (
         h,
         λ v l m x. let k = x.1.1 in i.lost x.0 k.at (omega (arith, k.from)) (omega (arith, k.after)) k.needs k.seen,
       )
 
-      pub held_never : limit ≤ p → Known (Held asks dead need a b limit) u false None
+      pub held_never : limit ≤ p → Known (HeldBefore asks dead need a b limit) u false None
       held_never h = (
         tt,
         λ v l m x. let k = x.1.1 in i.lost x.0 k.at (omega (arith, x.1.0)) (omega (arith, k.after)) k.needs k.seen,
       )
 
-      module _ (from z : ℕ) (is : from ≡ max c (p + a)) (d : First dead true c from z) where
+      module _ (from z : ℕ) (is : from ≡ max c (p + a)) (d : FirstFrom dead true c from z) where
         -- a dead tick comes before the first tick that p sees
-        pub held_cut : dead u ≡ false → z < from → Known (Held asks dead need a b limit) u false (Some z)
+        pub held_cut : dead u ≡ false → z < from → Known (HeldBefore asks dead need a b limit) u false (Some z)
         held_cut here h =
             let gone : dead z ≡ true = d.here h in
             let lt : u < z = ⊎_elim (λ (x : u < z). x) (λ (x : z ≤ u). let e : z ≡ u = omega (arith, d.from, i.at) in absurd (both_ways (dead u) here (ap dead (sym e) ∙ gone))) (cases_lt u z) in (
@@ -167,7 +167,7 @@ module _ (asks dead need : ℕ → Bool) (a b limit u : ℕ) where
                   (cases_lt t p),
             )
 
-        module _ (end w : ℕ) (zf : from ≤ z) (f : First (λ k. dead k || need k) true from end w) where
+        module _ (end w : ℕ) (zf : from ≤ z) (f : FirstFrom (λ k. dead k || need k) true from end w) where
           neither : (k : ℕ) → from ≤ k → k < w → (dead k ≡ false) × (need k ≡ false)
           neither k x y = or_parts (dead k) (need k) (not_yet (λ j. dead j || need j) from end w f k x y)
 
@@ -187,7 +187,7 @@ module _ (asks dead need : ℕ → Bool) (a b limit u : ℕ) where
               (λ (h : c ≤ k). both_ways (need k) (neither k (omega arith) l).1 n)
               (cases_lt k c)
 
-          pub walked_more : (q p' : ℕ) → p < q → q + b ≡ end → end ≤ w → First asks true q limit p' → Walked asks dead need a b limit u s p' w
+          pub walked_more : (q p' : ℕ) → p < q → q + b ≡ end → end ≤ w → FirstFrom asks true q limit p' → Walked asks dead need a b limit u s p' w
           walked_more q p' pq e ew n = record {
             from = omega (arith, i.from, n.from);
             asking = n.here;
@@ -202,12 +202,12 @@ module _ (asks dead need : ℕ → Bool) (a b limit u : ℕ) where
                 (cases_lt t p);
           }
 
-          pub held_ahead : (q : ℕ) (y : Bool) (o : Option ℕ) (x : Bool) (n : Option ℕ) → a ≤ b → p ≤ u → p < limit → Steady asks p y o → q ≡ clip o limit → q + b ≡ end → Ahead dead need b end w u x n → Known (Held asks dead need a b limit) u x n
+          pub held_ahead : (q : ℕ) (y : Bool) (o : Option ℕ) (x : Bool) (n : Option ℕ) → a ≤ b → p ≤ u → p < limit → Steady asks p y o → q ≡ clip o limit → q + b ≡ end → Ahead dead need b end w u x n → Known (HeldBefore asks dead need a b limit) u x n
           held_ahead q y o x n ab pu pl st qs e h =
               let pq : p < q = subst (λ m. p < m) (sym qs) (clip_later o limit p st.0 pl) in
               let ql : q ≤ limit = subst (λ m. m ≤ limit) (sym qs) (clip_most o limit) in (
                 h.later,
-                λ v l m. tells_cases (Held asks dead need a b limit v) x
+                λ v l m. tells_cases (HeldBefore asks dead need a b limit v) x
                     (λ g.
                     let k = max v w in
                     let at = h.good g v k m (omega arith) (omega arith) in

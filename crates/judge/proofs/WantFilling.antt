@@ -7,7 +7,7 @@ use Rattle.rules.specs.declared.row.Row.{Row}
 use Rattle.rules.specs.Rows.{root, Sound}
 use Rattle.pieces.specs.declared.piece.Piece.{Piece}
 use Rattle.pieces.specs.Pieces.{at_from}
-use Rattle.pieces.specs.Cells.{shown, Whole, Short}
+use Rattle.pieces.specs.Cells.{shown, CellsWhole, CellsShort}
 use Rattle.meaning.specs.Readings.{Readings}
 use Rattle.meaning.specs.Values.{value}
 use Rattle.meaning.specs.Verdicts.{ranges}
@@ -51,14 +51,14 @@ module _ {K : Kind} (L : Lawful K) (rows : List Row) (sound : Sound rows) (x : R
     pub wants_more : (E : Type 0) → i < length rows → (after : List (Piece Bool)) → length after ≡ length cells → (n : ℕ) → WantWritten K rows x tick {E = E} i cells used after (Ok n) → FilledWants first (i + 1) (set starts (i + 1) n) after n
     wants_more E lt after kept n w =
         filled_next (λ (b : Bool). b) (wants_by L rows sound x tick) first i starts cells used F (omega (arith, sound.few)) after kept n
-        (subst (λ (f : ℕ → Bool). Whole (λ b. b) f cells used after n) (one_want w.0 w.1.0) w.1.1)
+        (subst (λ (f : ℕ → Bool). CellsWhole (λ b. b) f cells used after n) (one_want w.0 w.1.0) w.1.1)
 
     -- it does not
     pub wants_short : {E : Type 0} (fault : E) → i < length rows → (after : List (Piece Bool)) → length after ≡ length cells → length cells ≡ length first → WantWritten K rows x tick i cells used after (Err fault) → WantsWritten K rows x tick first after (Err fault)
     wants_short fault lt after kept size w =
         let full = wants_listed L rows sound x tick in
         let pss = full.0 in
-        let s = subst (λ (f : ℕ → Bool). Short (λ b. b) f cells used after) (one_want w.0 w.1.0) w.1.1 in
+        let s = subst (λ (f : ℕ → Bool). CellsShort (λ b. b) f cells used after) (one_want w.0 w.1.0) w.1.1 in
         let out = filled_out (λ (b : Bool). b) (wants_by L rows sound x tick) first i starts cells used F pss (omega (arith, full.1.0)) (λ j h. full.1.1 j (omega (arith, full.1.0))) after kept size s in
         (pss, (listed_wants L rows sound x tick pss full.1.0 full.1.1, record { longer = out.0; beginning = sym (plain after) ∙ out.1 }))
 

@@ -16,7 +16,7 @@ use Rattle.pieces.proofs.Shows.{at_shown}
 use Rattle.judge.specs.declared.trial.Trial.{Trial}
 use Rattle.judge.specs.declared.trial.Trial.TheVariants.{Loose, Lowest, Higher}
 use Rattle.judge.specs.Yes.{any}
-use Rattle.judge.specs.Reaches.{sees, holds}
+use Rattle.judge.specs.Reaches.{sees, held_over}
 use Rattle.judge.specs.Signals.{heard}
 use Rattle.judge.specs.Places.{list_at}
 use Rattle.judge.specs.Trials.{tried, range_says, asked}
@@ -84,7 +84,7 @@ module _ (K : Kind) {G : Type 0} (value : G → K.Value) where
       Right d u = any (λ s. sees asks d a b s u) limit
 
       abbrev Left : (ℕ → Bool) → (ℕ → Bool) → ℕ → Bool
-      Left d n u = any (λ s. holds asks d n a b s u) limit
+      Left d n u = any (λ s. held_over asks d n a b s u) limit
 
       abbrev Chosen : Bool → ℕ → Bool
       Chosen e u = cond e (Right (row_says K value begins ranges Lowest l) u) (Left (row_says K value begins ranges Lowest l) (row_says K value begins ranges Higher r) u)

@@ -7,20 +7,20 @@ use Rattle.grades.specs.Ranges.{Span, Settled}
 use Rattle.rules.specs.Rows.{row_at, Child, TwinsApart, Sound}
 use Rattle.rules.specs.declared.row.Row.{Row}
 use Rattle.rules.specs.declared.row.Row.TheVariants.{Test, Not, And, Or, Eventually, Always, Until}
-use Rattle.meaning.specs.Wants.{Lowest, Open, Wants, Wanted}
+use Rattle.meaning.specs.Wants.{Lowest, LeftLasts, Wants, Wanted}
 use Rattle.meaning.proofs.Wanting.{child_wanted}
 use Rattle.judge.specs.Yes.{any}
-use Rattle.judge.specs.Reaches.{Sees, sees, holds}
+use Rattle.judge.specs.Reaches.{Sees, sees, held_over}
 use Rattle.judge.specs.Children.{never, child_says}
 use Rattle.judge.proofs.Anys.{tells_yes, tells_no, tells_from, any_from, any_some}
 use Rattle.judge.proofs.Sights.{sees_is, is_sees, holds_is, is_holds}
 
 -- dead says where left can only be lowest
 module _ (K : Kind) (left : ℕ → Span K.Value) (asks dead : ℕ → Bool) (a b : ℕ) (low : (t : ℕ) → Tells (dead t) (Lowest K (left t))) where
-  opened : (t w : ℕ) → Sees asks dead a b t w → Open K left a b t w
+  opened : (t w : ℕ) → Sees asks dead a b t w → LeftLasts K left a b t w
   opened t w s = record { from = s.from; to = s.to; alive = λ p x y e. both_ways (dead p) (s.alive p x y) (tells_no (Lowest K (left p)) (dead p) (low p) e) }
 
-  seen : (t w : ℕ) → asks t ≡ true → Open K left a b t w → Sees asks dead a b t w
+  seen : (t w : ℕ) → asks t ≡ true → LeftLasts K left a b t w → Sees asks dead a b t w
   seen t w e o = record {
     wants = e;
     from = o.from;
@@ -67,9 +67,9 @@ module _ (K : Kind) (rows : List Row) (sound : Sound rows) (v : ℕ → ℕ → 
         (λ t u e w. ⊎_elim (λ h. is_sees asks (low l) a b t u (seen K (v l) asks (low l) a b lows t u e h.1)) (λ h. absurd (apart (sym h.0 ∙ cr))) w)
 
     left_tells : (a b l r : ℕ) → row_at rows k ≡ Until a b l r → (l ≡ r → ⊥) → c ≡ l → ((t : ℕ) → Tells (low l t) (Lowest K (v l t))) → ((t : ℕ) → Tells (high r t) (¬ (Lowest K (v r t)))) →
-        (u : ℕ) → Tells (any (λ t. holds asks (low l) (high r) a b t u) limit) (Wanted K rows v asked_at c u)
+        (u : ℕ) → Tells (any (λ t. held_over asks (low l) (high r) a b t u) limit) (Wanted K rows v asked_at c u)
     left_tells a b l r is apart cl lows highs =
-        from_each (Until a b l r) (holds asks (low l) (high r) a b) is (inl cl)
+        from_each (Until a b l r) (held_over asks (low l) (high r) a b) is (inl cl)
         (λ t u e.
         let h = holds_is asks (low l) (high r) a b t u e in
         let w = h.at in
@@ -95,11 +95,11 @@ module _ (K : Kind) (rows : List Row) (sound : Sound rows) (v : ℕ → ℕ → 
     by_row (Eventually a b d) is child apart lows highs u = windowed (Eventually a b d) a b is child (λ t u x y. (child, x, y)) (λ t u w. (w.1, w.2)) u
     by_row (Always a b d) is child apart lows highs u = windowed (Always a b d) a b is child (λ t u x y. (child, x, y)) (λ t u w. (w.1, w.2)) u
     by_row (Until a b l r) is (inl cl) apart lows highs u =
-        subst (λ z. Tells (cond z (any (λ t. sees asks (low l) a b t u) limit) (any (λ t. holds asks (low l) (high r) a b t u) limit)) (Wanted K rows v asked_at c u))
+        subst (λ z. Tells (cond z (any (λ t. sees asks (low l) a b t u) limit) (any (λ t. held_over asks (low l) (high r) a b t u) limit)) (Wanted K rows v asked_at c u))
         (sym (ne_eqb c r (λ cr. apart (sym cl ∙ cr))))
         (left_tells a b l r is apart cl (λ t. lows l t (inl refl)) (λ t. highs r t (inr refl)) u)
     by_row (Until a b l r) is (inr cr) apart lows highs u =
-        subst (λ z. Tells (cond z (any (λ t. sees asks (low l) a b t u) limit) (any (λ t. holds asks (low l) (high r) a b t u) limit)) (Wanted K rows v asked_at c u))
+        subst (λ z. Tells (cond z (any (λ t. sees asks (low l) a b t u) limit) (any (λ t. held_over asks (low l) (high r) a b t u) limit)) (Wanted K rows v asked_at c u))
         (sym (eq-eqb c r cr))
         (right_tells a b l r is apart cr (λ t. lows l t (inl refl)) u)
 

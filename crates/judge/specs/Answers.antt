@@ -8,7 +8,7 @@ use Rattle.pieces.specs.declared.piece.Piece.{Piece}
 use Rattle.rules.specs.declared.row.Row.{Row}
 use Rattle.meaning.specs.declared.mark.Mark.{Mark}
 use Rattle.meaning.specs.Readings.{Readings}
-use Rattle.runs.specs.Calls.{Marking as Marked}
+use Rattle.runs.specs.Calls.{MarkedVerdict as Marked}
 use Rattle.judge.specs.declared.fault.JudgeFault.{JudgeFault}
 use Rattle.judge.specs.declared.fault.JudgeFault.TheVariants.{NoSuchLine, LateTick, RowCells}
 use Rattle.judge.specs.declared.fault.MarkFault.{MarkFault}

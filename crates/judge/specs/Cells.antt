@@ -32,7 +32,7 @@ module _ (K : Kind) {G : Type 0} (value : G → K.Value) (rows : List Row) (x : 
     pub behind : drop (length (all pss)) after ≡ drop (length (all pss)) before
 
   -- the lists of all rows, in row order, need more cells than there are: all cells are full of their beginning
-  pub record CutShort (pss : List (List (Piece (Span K.Value)))) : Type 0 where
+  pub record RowsRunOut (pss : List (List (Piece (Span K.Value)))) : Type 0 where
     pub listed : RowLists K rows x pss
     pub longer : length before < length (all pss)
     pub beginning : shown (worth K value) after ≡ take (length before) (all pss)
@@ -41,7 +41,7 @@ module _ (K : Kind) {G : Type 0} (value : G → K.Value) (rows : List Row) (x : 
   RowsComplete = (pss : List (List (Piece (Span K.Value)))) × Complete pss
 
   abbrev pub RowsCut : Type 0
-  RowsCut = (pss : List (List (Piece (Span K.Value)))) × CutShort pss
+  RowsCut = (pss : List (List (Piece (Span K.Value)))) × RowsRunOut pss
 
 module _ (K : Kind) (rows : List Row) (x : Readings) (tick : ℕ) where
   -- the want lists of all rows, from the last row to row 0

@@ -10,9 +10,9 @@ use Rattle.pieces.specs.Pieces.{at_from}
 use Rattle.judge.specs.declared.trial.Trial.{Trial}
 use Rattle.judge.specs.declared.trial.Trial.TheVariants.{Loose, Lowest, Higher}
 use Rattle.judge.specs.Yes.{any}
-use Rattle.judge.specs.Reaches.{sees, holds}
+use Rattle.judge.specs.Reaches.{sees, held_over}
 use Rattle.judge.specs.Trials.{tried, asked}
-use Rattle.judge.specs.Places.{list_at, told, Stands, Stands_prop, Ready, Ready_prop}
+use Rattle.judge.specs.Places.{list_at, list_says, ListStands, ListStands_prop, RowReady, RowReady_prop}
 
 abbrev pub never : ℕ → Bool
 never t = false
@@ -25,21 +25,21 @@ child_says (And l r) c asks low high limit u = any (λ t. sees asks never 0 0 t 
 child_says (Or l r) c asks low high limit u = any (λ t. sees asks never 0 0 t u) limit
 child_says (Eventually a b d) c asks low high limit u = any (λ t. sees asks never a b t u) limit
 child_says (Always a b d) c asks low high limit u = any (λ t. sees asks never a b t u) limit
-child_says (Until a b l r) c asks low high limit u = cond (c == r) (any (λ t. sees asks (low l) a b t u) limit) (any (λ t. holds asks (low l) (high r) a b t u) limit)
+child_says (Until a b l r) c asks low high limit u = cond (c == r) (any (λ t. sees asks (low l) a b t u) limit) (any (λ t. held_over asks (low l) (high r) a b t u) limit)
 
 -- what a list says at each tick
 abbrev pub said : List (Piece Bool) → ℕ → Bool
 said ps t = at_from false ps t
 
 -- how far behind a tick the row's window ends
-abbrev pub far : Row → ℕ
-far (Test l s m) = 0
-far (Not d) = 0
-far (And l r) = 0
-far (Or l r) = 0
-far (Eventually a b d) = b
-far (Always a b d) = b
-far (Until a b l r) = b
+abbrev pub window_end : Row → ℕ
+window_end (Test l s m) = 0
+window_end (Not d) = 0
+window_end (And l r) = 0
+window_end (Or l r) = 0
+window_end (Eventually a b d) = b
+window_end (Always a b d) = b
+window_end (Until a b l r) = b
 
 -- the row is a test
 abbrev pub is_test : Row → Bool
@@ -54,7 +54,7 @@ is_test (Until a b l r) = false
 module _ (K : Kind) {G : Type 0} (value : G → K.Value) (begins : List ℕ) (ranges : List (Piece (Range G))) where
   -- what the trial says of row c's list at each tick
   abbrev pub row_says : Trial → ℕ → ℕ → Bool
-  row_says trial c t = tried K trial (told K value begins ranges c t)
+  row_says trial c t = tried K trial (list_says K value begins ranges c t)
 
   -- where the child c of the row number k is wanted, by where the row is
   abbrev pub passed_on : Row → ℕ → ℕ → ℕ → (ℕ → Bool) → ℕ → Bool
@@ -66,10 +66,10 @@ module _ (K : Kind) {G : Type 0} (value : G → K.Value) (begins : List ℕ) (ra
 
 -- the lists of the row and of its children are there, and no window goes past the last u32
 pub record Askable {V : Type 0} (row : Row) (k limit : ℕ) (begins : List ℕ) (ranges : List (Piece V)) : Type 0 where
-  pub ready : Ready row begins ranges
-  pub own : Stands begins ranges k
-  pub near : limit + far row < 4294967296
+  pub ready : RowReady row begins ranges
+  pub own : ListStands begins ranges k
+  pub near : limit + window_end row < 4294967296
 
 -- it has one proof at most, so a struct may keep it
 pub Askable_prop : {V : Type 0} (row : Row) (k limit : ℕ) (begins : List ℕ) (ranges : List (Piece V)) → IsProp (Askable row k limit begins ranges)
-Askable_prop row k limit begins ranges p q = λ i. record { ready = Ready_prop row begins ranges p.ready q.ready i; own = Stands_prop begins ranges k p.own q.own i; near = le_prop p.near q.near i }
+Askable_prop row k limit begins ranges p q = λ i. record { ready = RowReady_prop row begins ranges p.ready q.ready i; own = ListStands_prop begins ranges k p.own q.own i; near = le_prop p.near q.near i }

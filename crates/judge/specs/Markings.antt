@@ -11,7 +11,7 @@ use Rattle.rules.specs.Rows.{root, reach, Sound}
 use Rattle.meaning.specs.declared.mark.Mark.{Mark}
 use Rattle.meaning.specs.Readings.{Readings}
 use Rattle.runs.specs.Calls.{all, RowLists, TellsWanted, WantLists}
-use Rattle.judge.specs.Places.{list_at, Stands}
+use Rattle.judge.specs.Places.{list_at, ListStands}
 use Rattle.judge.specs.Children.{said}
 use Rattle.judge.specs.declared.fault.MarkFault.{MarkFault}
 use Rattle.judge.specs.declared.fault.MarkFault.TheVariants.{Judging, WantCells, MarkCells}
@@ -48,7 +48,7 @@ module _ (K : Kind) (rows : List Row) (x : Readings) where
 
     -- the want lists of the last n rows are there, each as it should be
     pub record WantsKnown (n : ℕ) (starts : List ℕ) (wants : List (Piece Bool)) : Type 0 where
-      pub stands : (i : ℕ) → i < n → Stands starts wants i
+      pub stands : (i : ℕ) → i < n → ListStands starts wants i
       pub right : (i : ℕ) → i < n → TellsWanted K rows x tick (root rows - i) (said (list_at starts wants i))
 
     -- a writing of the want list of the row that has i rows behind it

@@ -8,7 +8,7 @@ module _ (f : ℕ → Bool) (limit row : ℕ) where
   NoneIn s e = (t : ℕ) → s ≤ t → t < e → f t ≢ true
 
   -- m is the first longest stretch from s on
-  pub record Next (s : ℕ) (m : Mark) : Type 0 where
+  pub record NextStretch (s : ℕ) (m : Mark) : Type 0 where
     pub of_row : m.row ≡ row
     pub from : s ≤ m.first
     pub before : NoneIn s m.first
@@ -20,12 +20,12 @@ module _ (f : ℕ → Bool) (limit row : ℕ) where
   -- the stretches follow one another from s up to e
   abbrev pub Upto : ℕ → List Mark → ℕ → Type 0
   Upto s [] e = s ≡ e
-  Upto s (m ∷ ms) e = Next s m × Upto m.after ms e
+  Upto s (m ∷ ms) e = NextStretch s m × Upto m.after ms e
 
   -- they are all from s on
   abbrev pub Stretches : ℕ → List Mark → Type 0
   Stretches s [] = NoneIn s limit
-  Stretches s (m ∷ ms) = Next s m × Stretches m.after ms
+  Stretches s (m ∷ ms) = NextStretch s m × Stretches m.after ms
 
   -- they are the first, and there are more
   abbrev pub SomeStretches : List Mark → Type 0

@@ -27,19 +27,19 @@ abbrev pub sees : (ℕ → Bool) → (ℕ → Bool) → ℕ → ℕ → ℕ → 
 sees asks dead a b t w = asks t && (nat_le (t + a) w && (nat_le w (t + b) && clear dead t w))
 
 -- v is between t and a tick that is seen from t and at which need holds
-pub record Holds (asks dead need : ℕ → Bool) (a b t v : ℕ) : Type 0 where
+pub record HeldOver (asks dead need : ℕ → Bool) (a b t v : ℕ) : Type 0 where
   pub from : t ≤ v
   pub at : ℕ
   pub after : v ≤ at
   pub needs : need at ≡ true
   pub seen : Sees asks dead a b t at
 
-abbrev pub holds : (ℕ → Bool) → (ℕ → Bool) → (ℕ → Bool) → ℕ → ℕ → ℕ → ℕ → Bool
-holds asks dead need a b t v = nat_le t v && any (λ w. nat_le v w && (need w && sees asks dead a b t w)) (suc (t + b))
+abbrev pub held_over : (ℕ → Bool) → (ℕ → Bool) → (ℕ → Bool) → ℕ → ℕ → ℕ → ℕ → Bool
+held_over asks dead need a b t v = nat_le t v && any (λ w. nat_le v w && (need w && sees asks dead a b t w)) (suc (t + b))
 
 -- v is held from some tick before n
-abbrev pub Held : (ℕ → Bool) → (ℕ → Bool) → (ℕ → Bool) → ℕ → ℕ → ℕ → ℕ → Type 0
-Held asks dead need a b n v = (t : ℕ) × ((t < n) × Holds asks dead need a b t v)
+abbrev pub HeldBefore : (ℕ → Bool) → (ℕ → Bool) → (ℕ → Bool) → ℕ → ℕ → ℕ → ℕ → Type 0
+HeldBefore asks dead need a b n v = (t : ℕ) × ((t < n) × HeldOver asks dead need a b t v)
 
 -- Up to o, whether w, the first dead or needed tick from u on, is a needed tick that lies at most b ticks ahead.
 -- Where found is no, w lies further ahead, or is dead; where it is yes, the ticks from w up to o are needed and not dead.

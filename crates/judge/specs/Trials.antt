@@ -9,14 +9,14 @@ use Rattle.grades.specs.Ranges.{Span}
 use Rattle.judge.specs.declared.trial.Trial.{Trial}
 use Rattle.judge.specs.declared.trial.Trial.TheVariants.{Loose, Lowest, Higher}
 
-abbrev pub told : {P : Type 0} → Dec P → Bool
-told (yes p) = true
-told (no n) = false
+abbrev pub dec_says : {P : Type 0} → Dec P → Bool
+dec_says (yes p) = true
+dec_says (no n) = false
 
 abbrev pub tried : (K : Kind) → Trial → Span K.Value → Bool
-tried K Loose p = not (told (K.same p.low p.high))
-tried K Lowest p = told (K.same p.high K.lowest)
-tried K Higher p = not (told (K.same p.high K.lowest))
+tried K Loose p = not (dec_says (K.same p.low p.high))
+tried K Lowest p = dec_says (K.same p.high K.lowest)
+tried K Higher p = not (dec_says (K.same p.high K.lowest))
 
 -- what the trial says of a list of ranges at each tick
 abbrev pub range_says : (K : Kind) {G : Type 0} (value : G → K.Value) → Trial → (ps : List (Piece (Range G))) → ordered ps ≡ true → ℕ → Bool

@@ -17,7 +17,7 @@ clip None e = e
 clip (Some n) e = min n e
 
 -- r is the first tick from s on, and before e, at which f is v; or it is e
-pub record First (f : ℕ → Bool) (v : Bool) (s e r : ℕ) : Type 0 where
+pub record FirstFrom (f : ℕ → Bool) (v : Bool) (s e r : ℕ) : Type 0 where
   pub from : s ≤ r
   pub to : r ≤ e
   pub none : (k : ℕ) → s ≤ k → k < r → f k ≢ v

@@ -1,7 +1,7 @@
 // The marks of all rows of tests, in the order of rows.
 ghost use Rattle.std.specs.Prelude.{ℕ, ◌-◌, ◌<◌, length};
 ghost use Rattle.rules.specs.Rows.{row_at};
-ghost use Rattle.judge.specs.Places.{Stands};
+ghost use Rattle.judge.specs.Places.{ListStands};
 ghost use Rattle.judge.specs.Children.{is_test, asks_at};
 ghost use Rattle.judge.specs.Marks.{MarkedTest, MarkedRows};
 ghost use Rattle.judge.specs.Markings.{WantsStand, MarksWritten};
@@ -28,8 +28,8 @@ impl<'a, 'b, 'c, 'd, G: Grade, L: Lines> Judged<'a, 'b, 'c, 'd, G, L> {
         marks: &mut [Mark],
         used: usize,
     ) -> Result<usize, Full>
-        requires ranges { Stands self.now.ranges.begins.now self.now.ranges.cells.now k }
-        requires wants { Stands wants.begins.now wants.cells.now at }
+        requires ranges { ListStands self.now.ranges.begins.now self.now.ranges.cells.now k }
+        requires wants { ListStands wants.begins.now wants.cells.now at }
         ensures { MarkedTest (is_test row) (asks_at G.Grade.kind G.Grade.value self.now.ranges.begins.now self.now.ranges.cells.now wants.entry.begins.now wants.entry.cells.now k at) self.now.limit k marks.old used marks.new result }
     {
         match row {
@@ -44,8 +44,8 @@ impl<'a, 'b, 'c, 'd, G: Grade, L: Lines> Judged<'a, 'b, 'c, 'd, G, L> {
 
     // The marks of all rows below the limit, by the lists of their ranges and of where they are wanted.
     fn mark_rows(&self, wants: Lists<'_, '_, bool>, marks: &mut [Mark]) -> Result<usize, Full>
-        requires ranges { (k : ℕ) → k < length self.now.rows.now → Stands self.now.ranges.begins.now self.now.ranges.cells.now k }
-        requires wants { (k : ℕ) → k < length self.now.rows.now → Stands wants.begins.now wants.cells.now (length self.now.rows.now - 1 - k) }
+        requires ranges { (k : ℕ) → k < length self.now.rows.now → ListStands self.now.ranges.begins.now self.now.ranges.cells.now k }
+        requires wants { (k : ℕ) → k < length self.now.rows.now → ListStands wants.begins.now wants.cells.now (length self.now.rows.now - 1 - k) }
         ensures { MarkedRows (λ k. is_test (row_at self.now.rows.now k)) (λ k. asks_at G.Grade.kind G.Grade.value self.now.ranges.begins.now self.now.ranges.cells.now wants.entry.begins.now wants.entry.cells.now k (length self.now.rows.now - 1 - k)) (λ k. self.now.limit) (length self.now.rows.now) marks.old marks.new result }
     {
         let mut used = 0;

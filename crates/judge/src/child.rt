@@ -6,7 +6,7 @@
 ghost use Rattle.std.specs.Prelude.{◌≡◌, ◌-◌, ◌<◌, ◌≤◌, true, false, ◌||◌};
 ghost use Rattle.pieces.specs.Ticks.{Steady};
 ghost use Rattle.judge.specs.Yes.{any, Clear};
-ghost use Rattle.judge.specs.Reaches.{sees as sight, holds as long_sight, Ahead};
+ghost use Rattle.judge.specs.Reaches.{sees as sight, held_over as long_sight, Ahead};
 
 use crate::ors::Or;
 use crate::window::Window;

@@ -1,6 +1,6 @@
 // Piece lists that lie one behind the other in cells.
 ghost use Rattle.std.specs.Prelude.{◌≡◌};
-ghost use Rattle.judge.specs.Places.{list_at, Stands};
+ghost use Rattle.judge.specs.Places.{list_at, ListStands};
 
 use pieces::list::PieceList;
 use pieces::piece::Piece;
@@ -15,7 +15,7 @@ pub(crate) struct Lists<'a, 'b, V> {
 impl<'a, 'b, V: Copy> Lists<'a, 'b, V> {
     // List k, to be looked up.
     pub(crate) fn list(&self, k: usize) -> PieceList<'b, V>
-        requires { Stands self.now.begins.now self.now.cells.now k }
+        requires { ListStands self.now.begins.now self.now.cells.now k }
         ensures { result.pieces.now ≡ list_at self.now.begins.now self.now.cells.now k }
     {
         PieceList {

@@ -6,7 +6,7 @@ ghost use Rattle.pieces.specs.Ticks.{Steady};
 ghost use Rattle.pieces.specs.Cells.{Written};
 ghost use Rattle.meaning.specs.Values.{step as row_value};
 ghost use Rattle.meaning.specs.Verdicts.{ranges};
-ghost use Rattle.judge.specs.Places.{told, Ready, Ready_prop};
+ghost use Rattle.judge.specs.Places.{list_says, RowReady, RowReady_prop};
 
 use crate::limits::tested;
 use crate::lines::Lines;
@@ -27,8 +27,8 @@ fn row_step<G: Grade, L: Lines>(
     lines: &L,
     t: u32,
 ) -> (Range<G>, Option<u32>)
-    requires { Ready row done.begins.now done.cells.now }
-    ensures { Steady (row_value (ranges G.Grade.kind) (L.Lines.x lines.now) (told G.Grade.kind G.Grade.value done.entry.begins.now done.entry.cells.now) row) t (worth G.Grade.kind G.Grade.value result.0) result.1 }
+    requires { RowReady row done.begins.now done.cells.now }
+    ensures { Steady (row_value (ranges G.Grade.kind) (L.Lines.x lines.now) (list_says G.Grade.kind G.Grade.value done.entry.begins.now done.entry.cells.now) row) t (worth G.Grade.kind G.Grade.value result.0) result.1 }
 {
     match row {
         Row::Test { line, side, limit } => {
@@ -73,7 +73,7 @@ struct RowSignal<'a, 'b, 'c, G, L> {
     row: Row,
     done: Lists<'a, 'b, Range<G>>,
     lines: &'c L,
-    ghost ready: { Ready row done.begins.now done.cells.now } by { Ready_prop row done.begins.now done.cells.now },
+    ghost ready: { RowReady row done.begins.now done.cells.now } by { RowReady_prop row done.begins.now done.cells.now },
 }
 
 impl<'a, 'b, 'c, G: Grade, L: Lines> Signal<Range<G>> for RowSignal<'a, 'b, 'c, G, L> {
@@ -81,7 +81,7 @@ impl<'a, 'b, 'c, G: Grade, L: Lines> Signal<Range<G>> for RowSignal<'a, 'b, 'c, 
 
     ghost value = { worth G.Grade.kind G.Grade.value };
 
-    ghost f = { λ s. row_value (ranges G.Grade.kind) (L.Lines.x s.lines.now) (told G.Grade.kind G.Grade.value s.done.begins.now s.done.cells.now) s.row };
+    ghost f = { λ s. row_value (ranges G.Grade.kind) (L.Lines.x s.lines.now) (list_says G.Grade.kind G.Grade.value s.done.begins.now s.done.cells.now) s.row };
 
     fn step(&self, t: u32) -> (Range<G>, Option<u32>) {
         row_step(self.row, self.done, self.lines, t)
@@ -97,8 +97,8 @@ pub(crate) fn write_row<G: Grade, L: Lines>(
     used: usize,
 ) -> Result<usize, Full>
     requires within { used ≤ length cells.old }
-    requires ready { Ready row begins.now (take used cells.old) }
-    ensures { Written (worth G.Grade.kind G.Grade.value) (row_value (ranges G.Grade.kind) (L.Lines.x lines.now) (told G.Grade.kind G.Grade.value begins.now (take used cells.old)) row) cells.old used cells.new result }
+    requires ready { RowReady row begins.now (take used cells.old) }
+    ensures { Written (worth G.Grade.kind G.Grade.value) (row_value (ranges G.Grade.kind) (L.Lines.x lines.now) (list_says G.Grade.kind G.Grade.value begins.now (take used cells.old)) row) cells.old used cells.new result }
 {
     let (cells, rest) = cells.split_at_mut(used);
     let done = Lists { begins, cells };

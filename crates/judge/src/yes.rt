@@ -1,6 +1,6 @@
 // Walks over a signal of yes and no.
 ghost use Rattle.std.specs.Prelude.{◌≡◌, ◌≤◌};
-ghost use Rattle.judge.specs.Yes.{First, Clear, clip};
+ghost use Rattle.judge.specs.Yes.{FirstFrom, Clear, clip};
 
 use crate::yesno::YesNo;
 
@@ -14,7 +14,7 @@ pub(crate) fn clipped(next: Option<u32>, end: u32) -> u32
 // The first tick from `from` on at which the signal is `value`, or `end` where there is none before it.
 pub(crate) fn first<S: YesNo>(source: &S, value: bool, from: u32, end: u32) -> u32
     requires { from ≤ end }
-    ensures { First (S.YesNo.f source.now) value from end result }
+    ensures { FirstFrom (S.YesNo.f source.now) value from end result }
 {
     // From change to change, and not from tick to tick.
     let mut t = from;

@@ -11,7 +11,7 @@ use Rattle.meaning.specs.declared.mark.Mark.{Mark}
 use Rattle.meaning.specs.Readings.{Readings, AllWithin, Exact}
 use Rattle.meaning.specs.Values.{over, until_at, step, value}
 use Rattle.meaning.specs.Verdicts.{ranges, verdict}
-use Rattle.meaning.specs.Wants.{Lowest, Open, Wants, Wanted, asked, passed}
+use Rattle.meaning.specs.Wants.{Lowest, LeftLasts, Wants, Wanted, asked, passed}
 use Rattle.rules.specs.Tested.{Tests}
 use Rattle.meaning.specs.Marks.{Marked, Marks, AtMarks}
 use Rattle.meaning.proofs.Gaps.{one_gap}
@@ -97,7 +97,7 @@ module _ {K : Kind} (L : Lawful K) where
             (until_related (nesting L) (v l) (v r) (w l) (w r) t u o (λ j _ _. knl.inside j) (knr.inside u))
             (until_related (proper L) (w l) (w r) (w l) (w r) t u o (λ j _ _. knl.fit' j) (knr.fit' u)) settled)
 
-        live : Open K (v l) a b t u → ¬ (Lowest K (v r u)) → R p q
+        live : LeftLasts K (v l) a b t u → ¬ (Lowest K (v r u)) → R p q
         live open' ne =
             until_related keeps (v l) (v r) (w l) (w r) t u (omega arith)
             (λ j after before. each l j (inl refl) (inr (refl, after, (u, before, open', ne)))) (each r u (inr refl) (inl (refl, open')))

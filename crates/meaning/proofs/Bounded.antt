@@ -2,7 +2,7 @@
 use Rattle.std.proofs.Common.{ℕ, ◌+◌, ◌≤◌, List, [], get_or, inl, inr, arith}
 use Rattle.grades.specs.Kinds.{Kind}
 use Rattle.grades.specs.Ranges.{Span}
-use Rattle.rules.specs.Rows.{row_at, Sound, reach, row_reach_lem, reaches_from}
+use Rattle.rules.specs.Rows.{row_at, Sound, reach, row_reach_by, reaches_from}
 use Rattle.rules.specs.declared.row.Row.{Row}
 use Rattle.rules.specs.declared.row.Row.TheVariants.{Test, Not, And, Or, Eventually, Always, Until}
 use Rattle.meaning.specs.Wants.{Wants, Wanted, asked, passed}
@@ -21,7 +21,7 @@ module _ (K : Kind) (v : ℕ → ℕ → Span K.Value) where
   wants_after (Until a b l r) t c u (inr h) = h.1
 
   -- a child looks no further than its parent
-  wants_near : (rs : List ℕ) (r : Row) (t c u : ℕ) → Wants K v r t c u → u + get_or rs c 0 ≤ t + row_reach_lem rs r
+  wants_near : (rs : List ℕ) (r : Row) (t c u : ℕ) → Wants K v r t c u → u + get_or rs c 0 ≤ t + row_reach_by rs r
   wants_near rs (Test l s m) t c u h = absurd h
   wants_near rs (Not a) t c u h = rw (h.0, h.1) (omega arith)
   wants_near rs (And a b) t c u h = elim h.0 [ inl e ↦ rw (e, h.1) (omega arith) | inr e ↦ rw (e, h.1) (omega arith) ]

@@ -10,7 +10,7 @@ use Rattle.meaning.specs.declared.mark.Mark.{Mark}
 use Rattle.meaning.specs.Readings.{Readings}
 use Rattle.meaning.specs.Values.{value}
 use Rattle.meaning.specs.Verdicts.{ranges}
-use Rattle.meaning.specs.Wants.{Open, Wants, Wanted}
+use Rattle.meaning.specs.Wants.{LeftLasts, Wants, Wanted}
 use Rattle.rules.specs.Tested.{Tests}
 use Rattle.meaning.specs.Marks.{Marked, Marks}
 use Rattle.meaning.proofs.Deciding.{both?, either?, not?, as?, three?, some?}
@@ -23,7 +23,7 @@ module _ {K : Kind} (L : Lawful K) (v : ℕ → ℕ → Span K.Value) where
   settled? : (p : Span K.Value) → Dec (Settled K p)
   settled? p = K.same p.low p.high
 
-  open? : (left : ℕ → Span K.Value) (a b t w : ℕ) → Dec (Open K left a b t w)
+  open? : (left : ℕ → Span K.Value) (a b t w : ℕ) → Dec (LeftLasts K left a b t w)
   open? left a b t w =
       as? (λ h. record { from = h.0; to = h.1; alive = λ p x y e. h.2 (p, (omega arith), (x, e)) })
       (λ o. (o.from, o.to, λ h. o.alive h.0 h.2.0 (let l = h.1 in omega arith) h.2.1))

@@ -2,7 +2,7 @@
 use Rattle.std.proofs.Common.{◌≡◌, ℕ, pred, ◌<◌, ◌≤◌, ◌⊎◌, List, [], ◌∷◌, ◌++◌, sym, refl, ◌∙◌, subst, ap₂, inl, inr, arith}
 use native.Mathlib.Decide.{dec_lt}
 use Rattle.meaning.specs.declared.mark.Mark.{Mark}
-use Rattle.meaning.specs.Marks.{Longest, Listed, Each, Before, Ordered, Lists}
+use Rattle.meaning.specs.Marks.{LongestStretch, Listed, Each, MarkBefore, Ordered, ListsStretches}
 
 abbrev In : Mark → List Mark → Type 0
 In m [] = ⊥
@@ -23,7 +23,7 @@ mark_same : (m n : Mark) → m.row ≡ n.row → m.first ≡ n.first → m.after
 mark_same m n e f g = λ i. record { row = e i; first = f i; after = g i }
 
 -- longest stretches that share the first tick of one
-overlap : {P : ℕ → Type 0} {f a f' a' : ℕ} → Longest P f a → Longest P f' a' → f' ≤ f → f < a' → (f ≡ f') × (a ≡ a')
+overlap : {P : ℕ → Type 0} {f a f' a' : ℕ} → LongestStretch P f a → LongestStretch P f' a' → f' ≤ f → f < a' → (f ≡ f') × (a ≡ a')
 overlap {P} {f} {a} {f'} {a'} h k l r = (firsts, afters)
   where
     firsts : f ≡ f'
@@ -35,14 +35,14 @@ overlap {P} {f} {a} {f'} {a'} h k l r = (firsts, afters)
       | no o ↦ elim (dec_lt a' a) [ yes q ↦ absurd (k.ends (h.all a' (omega arith) q)) | no q ↦ omega arith ]
     ]
 
-before_once : (m n : Mark) → Before m n → Before n m → ⊥
+before_once : (m n : Mark) → MarkBefore m n → MarkBefore n m → ⊥
 before_once m n (inl a) (inl b) = omega arith
 before_once m n (inl a) (inr b) = omega arith
 before_once m n (inr a) (inl b) = omega arith
 before_once m n (inr a) (inr b) = omega arith
 
 -- one longest stretch is over before a later one begins
-over_before : {P : ℕ → Type 0} {f a f' a' : ℕ} → Longest P f a → Longest P f' a' → f < f' → a < f'
+over_before : {P : ℕ → Type 0} {f a f' a' : ℕ} → LongestStretch P f a → LongestStretch P f' a' → f < f' → a < f'
 over_before {P} {f} {a} {f'} {a'} h k l = elim (dec_lt a f') [ yes o ↦ o | no o ↦ absurd (k.starts (pred f') (omega arith) (h.all (pred f') (omega arith) (omega arith))) ]
 
 in_behind : (ms : List Mark) (m : Mark) (ns : List Mark) → In m (ms ++ (m ∷ ns))
@@ -53,7 +53,7 @@ in_further : (ms : List Mark) (m : Mark) (ns : List Mark) (n : Mark) → In n ns
 in_further [] m ns n i = inr i
 in_further (z ∷ ms) m ns n i = inr (in_further ms m ns n i)
 
-ordered_behind : (ms : List Mark) (m : Mark) (ns : List Mark) → Ordered (ms ++ (m ∷ ns)) → Each (Before m) ns
+ordered_behind : (ms : List Mark) (m : Mark) (ns : List Mark) → Ordered (ms ++ (m ∷ ns)) → Each (MarkBefore m) ns
 ordered_behind [] m ns h = h.0
 ordered_behind (z ∷ ms) m ns h = ordered_behind ms m ns h.1
 
@@ -69,28 +69,28 @@ ordered_same (m ∷ ms) (n ∷ ns) a b f g =
     heads : In m (n ∷ ns) → In n (m ∷ ms) → m ≡ n
     heads (inl e) j = e
     heads (inr i) (inl e) = sym e
-    heads (inr i) (inr j) = absurd (before_once m n (each_in (Before m) ms a.0 n j) (each_in (Before n) ns b.0 m i))
+    heads (inr i) (inr j) = absurd (before_once m n (each_in (MarkBefore m) ms a.0 n j) (each_in (MarkBefore n) ns b.0 m i))
 
-    tail : (z p : Mark) (ps : List Mark) (q : Mark) (qs : List Mark) → Each (Before p) ps → q ≡ p → In z ps → In z (q ∷ qs) → In z qs
-    tail z p ps q qs h e i (inl is) = let o = subst (Before p) (is ∙ e) (each_in (Before p) ps h z i) in absurd (before_once p p o o)
+    tail : (z p : Mark) (ps : List Mark) (q : Mark) (qs : List Mark) → Each (MarkBefore p) ps → q ≡ p → In z ps → In z (q ∷ qs) → In z qs
+    tail z p ps q qs h e i (inl is) = let o = subst (MarkBefore p) (is ∙ e) (each_in (MarkBefore p) ps h z i) in absurd (before_once p p o o)
     tail z p ps q qs h e i (inr j) = j
 
 module _ {P : ℕ → ℕ → Type 0} where
-  shared : (ms ns : List Mark) → Lists P ms → Lists P ns → (m : Mark) → In m ms → In m ns
+  shared : (ms ns : List Mark) → ListsStretches P ms → ListsStretches P ns → (m : Mark) → In m ms → In m ns
   shared ms ns h k m i =
-      let l = each_in (λ m. Longest (P m.row) m.first m.after) ms h.longest m i in
+      let l = each_in (λ m. LongestStretch (P m.row) m.first m.after) ms h.longest m i in
       let f = finds ns m.row m.first (k.complete m.row m.first (l.all m.first (omega arith) l.some)) in
       let n = f.0 in
-      let j = subst (λ r. Longest (P r) n.first n.after) (sym f.2) (each_in (λ m. Longest (P m.row) m.first m.after) ns k.longest n f.1) in
+      let j = subst (λ r. LongestStretch (P r) n.first n.after) (sym f.2) (each_in (λ m. LongestStretch (P m.row) m.first m.after) ns k.longest n f.1) in
       let o = overlap l j f.3 f.4 in
       subst (λ z. In z ns) (sym (mark_same m n f.2 o.0 o.1)) f.1
 
-  pub lists_same : (ms ns : List Mark) → Lists P ms → Lists P ns → ms ≡ ns
+  pub lists_same : (ms ns : List Mark) → ListsStretches P ms → ListsStretches P ns → ms ≡ ns
   lists_same ms ns h k = ordered_same ms ns h.ordered k.ordered (shared ms ns h k) (shared ns ms k h)
 
-  pub lists_order : (before between behind : List Mark) (m n : Mark) → Lists P (before ++ (m ∷ (between ++ (n ∷ behind)))) →
+  pub lists_order : (before between behind : List Mark) (m n : Mark) → ListsStretches P (before ++ (m ∷ (between ++ (n ∷ behind)))) →
       (m.row < n.row) ⊎ ((m.row ≡ n.row) × (m.after < n.first))
-  lists_order before between behind m n h = by (each_in (Before m) ns (ordered_behind before m ns h.ordered) n i)
+  lists_order before between behind m n h = by (each_in (MarkBefore m) ns (ordered_behind before m ns h.ordered) n i)
     where
       ns : List Mark
       ns = between ++ (n ∷ behind)
@@ -98,11 +98,11 @@ module _ {P : ℕ → ℕ → Type 0} where
       i : In n ns
       i = in_behind between n behind
 
-      at : (z : Mark) → In z (before ++ (m ∷ ns)) → Longest (P z.row) z.first z.after
-      at = each_in (λ z. Longest (P z.row) z.first z.after) (before ++ (m ∷ ns)) h.longest
+      at : (z : Mark) → In z (before ++ (m ∷ ns)) → LongestStretch (P z.row) z.first z.after
+      at = each_in (λ z. LongestStretch (P z.row) z.first z.after) (before ++ (m ∷ ns)) h.longest
 
-      by : Before m n → (m.row < n.row) ⊎ ((m.row ≡ n.row) × (m.after < n.first))
+      by : MarkBefore m n → (m.row < n.row) ⊎ ((m.row ≡ n.row) × (m.after < n.first))
       by (inl l) = inl l
       by (inr e) =
-          let later = subst (λ r. Longest (P r) n.first n.after) (sym e.0) (at n (in_further before m ns n i)) in
+          let later = subst (λ r. LongestStretch (P r) n.first n.after) (sym e.0) (at n (in_further before m ns n i)) in
           inr (e.0, over_before (at m (in_behind before m ns)) later e.1)

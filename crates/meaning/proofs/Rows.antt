@@ -1,7 +1,7 @@
 -- A row's value is its step over the values of the rows, and what is shown row by row.
 use Rattle.std.proofs.Common.{◌≡◌, ℕ, zero, suc, pred, ◌+◌, ◌-◌, ◌<◌, max, List, [], ◌∷◌, ◌++◌, length, get_or, sym, refl, ap, ◌∙◌, subst, ap₂, inl, inr, le_of_suc-le-suc, not-suc-le-zero, add-zero, arith, length-append}
 use lib.ListN.{get_or-append}
-use Rattle.rules.specs.Rows.{row_at, Child, Sound, row_reach_lem, reaches_from}
+use Rattle.rules.specs.Rows.{row_at, Child, Sound, row_reach_by, reaches_from}
 use Rattle.rules.specs.declared.row.Row.{Row}
 use Rattle.rules.specs.declared.row.Row.TheVariants.{Test, Not, And, Or, Eventually, Always, Until}
 use Rattle.meaning.specs.Values.{Algebra, over, until_at, step, signal, values, value}
@@ -88,7 +88,7 @@ module _ {X C : Type 0} (A : Algebra X C) (x : ℕ → ℕ → X) where
 abbrev pub reach_of : List Row → ℕ → ℕ
 reach_of rows k = get_or (reaches_from [] rows) k 0
 
-reach_same : (vs ws : List ℕ) (r : Row) → ((c : ℕ) → Child r c → get_or vs c 0 ≡ get_or ws c 0) → row_reach_lem vs r ≡ row_reach_lem ws r
+reach_same : (vs ws : List ℕ) (r : Row) → ((c : ℕ) → Child r c → get_or vs c 0 ≡ get_or ws c 0) → row_reach_by vs r ≡ row_reach_by ws r
 reach_same vs ws (Test l s m) e = refl
 reach_same vs ws (Not a) e = e a refl
 reach_same vs ws (And a b) e = ap₂ max (e a (inl refl)) (e b (inr refl))
@@ -97,11 +97,11 @@ reach_same vs ws (Eventually a b d) e = ap (λ n. n + b) (e d refl)
 reach_same vs ws (Always a b d) e = ap (λ n. n + b) (e d refl)
 reach_same vs ws (Until a b l r) e = ap₂ (λ m n. max m n + b) (e l (inl refl)) (e r (inr refl))
 
-reaches_built : (vs : List ℕ) (rows : List Row) → reaches_from vs rows ≡ build row_reach_lem 0 vs rows
+reaches_built : (vs : List ℕ) (rows : List Row) → reaches_from vs rows ≡ build row_reach_by 0 vs rows
 unfolding build
 reaches_built vs [] = refl
-reaches_built vs (r ∷ rows) = reaches_built (vs ++ (row_reach_lem vs r ∷ [])) rows
+reaches_built vs (r ∷ rows) = reaches_built (vs ++ (row_reach_by vs r ∷ [])) rows
 
-pub reach_is : {rows : List Row} → Sound rows → (k : ℕ) → k < length rows → reach_of rows k ≡ row_reach_lem (reaches_from [] rows) (row_at rows k)
+pub reach_is : {rows : List Row} → Sound rows → (k : ℕ) → k < length rows → reach_of rows k ≡ row_reach_by (reaches_from [] rows) (row_at rows k)
 reach_is {rows} sound k h =
-    subst (λ ws. get_or ws k 0 ≡ row_reach_lem ws (row_at rows k)) (sym (reaches_built [] rows)) (built row_reach_lem 0 reach_same sound k h)
+    subst (λ ws. get_or ws k 0 ≡ row_reach_by ws (row_at rows k)) (sym (reaches_built [] rows)) (built row_reach_by 0 reach_same sound k h)

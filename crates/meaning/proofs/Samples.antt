@@ -11,7 +11,7 @@ use Rattle.meaning.specs.Values.{over, step, values, value}
 use Rattle.meaning.specs.Verdicts.{ranges}
 use Rattle.meaning.specs.Wants.{Wants, Wanted, asked, passed}
 use Rattle.rules.specs.Tested.{Tests}
-use Rattle.meaning.specs.Marks.{Longest, Marked, Marks}
+use Rattle.meaning.specs.Marks.{LongestStretch, Marked, Marks}
 use Rattle.meaning.specs.Cases.{guard, forecast, refined, stretch}
 
 -- where the last row is settled, nothing else is wanted
@@ -106,7 +106,7 @@ seen_marked k u h l r = record { line = (line_of k h).0; tests = (line_of k h).1
     wanted : Wanted truths guard v 0 k u
     wanted = passed 2 u k u (passed 3 0 2 u asked open_root (refl, omega arith, omega arith)) (cell 2 (omega arith) u l r) (child, refl)
 
-row_longest : (k : ℕ) → k < 2 → Longest (Marked truths guard forecast 0 k) 2 4
+row_longest : (k : ℕ) → k < 2 → LongestStretch (Marked truths guard forecast 0 k) 2 4
 row_longest k h = record {
   some = omega arith;
   all = λ u l r. seen_marked k u h l r;

@@ -2,7 +2,7 @@
 use Rattle.std.proofs.Common.{◌≡◌, ℕ, zero, suc, ◌+◌, ◌-◌, ◌<◌, ◌≤◌, ◌⊎◌, List, [], ◌∷◌, ◌++◌, sym, refl, subst, inl, inr, arith}
 use native.Mathlib.Decide.{dec_lt}
 use Rattle.meaning.specs.declared.mark.Mark.{Mark}
-use Rattle.meaning.specs.Marks.{Longest, Listed, Each, Before, Ordered}
+use Rattle.meaning.specs.Marks.{LongestStretch, Listed, Each, MarkBefore, Ordered}
 use Rattle.meaning.proofs.Deciding.{not?, first}
 
 -- m is the first longest stretch of P from s on, for the row k
@@ -38,7 +38,7 @@ module _ (P : ℕ → Type 0) (k : ℕ) where
       let n = c.0 in
       (n.from, each_as (λ z (h : m.after ≤ z.first). let a = n.from in let b = n.some in omega arith) ms (chain_from m.after ms c.1))
 
-  pub chain_longest : (s : ℕ) → (s ≡ 0) ⊎ ¬ (P s) → (ms : List Mark) → Chain P k s ms → Each (λ m. Longest P m.first m.after) ms
+  pub chain_longest : (s : ℕ) → (s ≡ 0) ⊎ ¬ (P s) → (ms : List Mark) → Chain P k s ms → Each (λ m. LongestStretch P m.first m.after) ms
   chain_longest s start [] c = tt
   chain_longest s start (m ∷ ms) c =
       (record { some = n.some; all = n.all; starts = λ u e. starts u e start; ends = n.ends }, chain_longest m.after (inr n.ends) ms c.1)
@@ -68,7 +68,7 @@ module _ (P : ℕ → Type 0) (k : ℕ) where
   chain_ordered s (m ∷ ms) c =
       (behind ms (chain_rows m.after ms c.1) (chain_from m.after ms c.1), chain_ordered m.after ms c.1)
     where
-      behind : (ns : List Mark) → Each (λ z. z.row ≡ k) ns → Each (λ z. m.after ≤ z.first) ns → Each (Before m) ns
+      behind : (ns : List Mark) → Each (λ z. z.row ≡ k) ns → Each (λ z. m.after ≤ z.first) ns → Each (MarkBefore m) ns
       behind [] h j = tt
       behind (z ∷ ns) h j =
           let n = c.0 in

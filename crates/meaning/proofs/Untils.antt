@@ -4,22 +4,22 @@ use native.Mathlib.Decide.{dec_le, dec_lt}
 use Rattle.grades.specs.Kinds.{Kind, Lawful}
 use Rattle.grades.specs.Ranges.{Span}
 use Rattle.rules.specs.declared.row.Row.TheVariants.{Until}
-use Rattle.meaning.specs.Wants.{Lowest, Open, Wants}
+use Rattle.meaning.specs.Wants.{Lowest, LeftLasts, Wants}
 use Rattle.meaning.specs.Untils.{FirstLowest, LastNeeded, NoneNeeded}
 use Rattle.meaning.proofs.Deciding.{not?, first, last}
 
 module _ (K : Kind) where
-  pub open_until : (left : ℕ → Span K.Value) (a b t s : ℕ) → FirstLowest K left b t s → (w : ℕ) → Open K left a b t w ↔ ((t + a ≤ w) × (w < s))
+  pub open_until : (left : ℕ → Span K.Value) (a b t s : ℕ) → FirstLowest K left b t s → (w : ℕ) → LeftLasts K left a b t w ↔ ((t + a ≤ w) × (w < s))
   open_until left a b t s f w = (there, back)
     where
-      there : Open K left a b t w → (t + a ≤ w) × (w < s)
+      there : LeftLasts K left a b t w → (t + a ≤ w) × (w < s)
       there o = (o.from, elim (dec_lt w s) [ yes l ↦ l | no n ↦ let e = o.to in absurd (o.alive s f.from (omega arith) (f.here (omega arith))) ])
 
-      back : (t + a ≤ w) × (w < s) → Open K left a b t w
+      back : (t + a ≤ w) × (w < s) → LeftLasts K left a b t w
       back h = record { from = h.0; to = omega arith; alive = λ p x y. f.before p x (omega arith) }
 
   module _ (v : ℕ → ℕ → Span K.Value) (a b l r t s : ℕ) (apart : ¬ (l ≡ r)) (f : FirstLowest K (v l) b t s) where
-    iff : (w : ℕ) → Open K (v l) a b t w ↔ ((t + a ≤ w) × (w < s))
+    iff : (w : ℕ) → LeftLasts K (v l) a b t w ↔ ((t + a ≤ w) × (w < s))
     iff = open_until (v l) a b t s f
 
     pub right_wants : (u : ℕ) → Wants K v (Until a b l r) t r u ↔ ((t + a ≤ u) × (u < s))
@@ -30,7 +30,7 @@ module _ (K : Kind) where
     unfolding iff
     left_wants w g u = (elim [ inl h ↦ absurd (apart h.0) | inr h ↦ (h.1, there h.2) ], λ h. inr (refl, h.0, (w, h.1, (iff w).1 (g.from, g.to), g.needed)))
       where
-        there : (z : ℕ) × (u ≤ z) × Open K (v l) a b t z × ¬ (Lowest K (v r z)) → u ≤ w
+        there : (z : ℕ) × (u ≤ z) × LeftLasts K (v l) a b t z × ¬ (Lowest K (v r z)) → u ≤ w
         there h = elim (dec_le h.0 w) [
           | yes le ↦ let o = h.1 in omega arith
           | no n ↦ absurd (h.3 (g.behind h.0 (omega arith) ((iff h.0).0 h.2).1))

@@ -12,7 +12,7 @@ use Rattle.meaning.specs.Verdicts.{ranges}
 use Rattle.meaning.specs.Wants.{Wanted}
 
 -- P holds from `first` to the tick before `after`, and at neither neighbour
-pub record Longest (P : ℕ → Type 0) (first after : ℕ) : Type 0 where
+pub record LongestStretch (P : ℕ → Type 0) (first after : ℕ) : Type 0 where
   pub some : first < after
   pub all : (u : ℕ) → first ≤ u → u < after → P u
   pub starts : (u : ℕ) → suc u ≡ first → ¬ (P u)
@@ -28,16 +28,16 @@ Each P [] = Unit {0}
 Each P (m ∷ ms) = P m × Each P ms
 
 -- by row, then by tick
-abbrev pub Before : Mark → Mark → Type 0
-Before m n = (m.row < n.row) ⊎ ((m.row ≡ n.row) × (m.first < n.first))
+abbrev pub MarkBefore : Mark → Mark → Type 0
+MarkBefore m n = (m.row < n.row) ⊎ ((m.row ≡ n.row) × (m.first < n.first))
 
 abbrev pub Ordered : List Mark → Type 0
 Ordered [] = Unit {0}
-Ordered (m ∷ ms) = Each (Before m) ms × Ordered ms
+Ordered (m ∷ ms) = Each (MarkBefore m) ms × Ordered ms
 
 -- all longest stretches of rows and ticks at which P holds, in order
-pub record Lists (P : ℕ → ℕ → Type 0) (ms : List Mark) : Type 0 where
-  pub longest : Each (λ m. Longest (P m.row) m.first m.after) ms
+pub record ListsStretches (P : ℕ → ℕ → Type 0) (ms : List Mark) : Type 0 where
+  pub longest : Each (λ m. LongestStretch (P m.row) m.first m.after) ms
   pub complete : (k u : ℕ) → P k u → Listed ms k u
   pub ordered : Ordered ms
 
@@ -50,7 +50,7 @@ module _ (K : Kind) (rows : List Row) (x : Readings) (asked_at : ℕ) where
     pub unsettled : ¬ (Settled K (value (ranges K) rows x k u))
 
   abbrev pub Marks : List Mark → Type 0
-  Marks = Lists Marked
+  Marks = ListsStretches Marked
 
 -- P holds of the line and the tick of each reading that is marked
 abbrev pub AtMarks : List Row → List Mark → (ℕ → ℕ → Type 0) → Type 0

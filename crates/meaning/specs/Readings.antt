@@ -5,13 +5,13 @@ use Rattle.rules.specs.Rows.{NumberFits}
 use Rattle.meaning.specs.declared.reading.Reading.{Reading}
 
 -- the numbers are the ends of a reading
-abbrev pub Ends : ℤ → ℤ → Type 0
-Ends lower upper = NumberFits lower × NumberFits upper × (lower ≤ℤ upper)
+abbrev pub ReadingEnds : ℤ → ℤ → Type 0
+ReadingEnds lower upper = NumberFits lower × NumberFits upper × (lower ≤ℤ upper)
 
 -- the reading with these ends, or none, where they are not the ends of one
-abbrev pub Reads : ℤ → ℤ → Option Reading → Type 0
-Reads lower upper None = Ends lower upper → ⊥
-Reads lower upper (Some p) = (p.lower ≡ lower) × (p.upper ≡ upper)
+abbrev pub ReadingWith : ℤ → ℤ → Option Reading → Type 0
+ReadingWith lower upper None = ReadingEnds lower upper → ⊥
+ReadingWith lower upper (Some p) = (p.lower ≡ lower) × (p.upper ≡ upper)
 
 abbrev pub widest : Reading
 widest = record { lower = negsuc 499999; upper = pos 500000; bottom = (le_z_yes tt, le_z_yes tt); top = (le_z_yes tt, le_z_yes tt); ordered = le_z_yes tt }

@@ -12,7 +12,7 @@ module _ (K : Kind) where
   Lowest p = p.high ≡ K.lowest
 
   -- tick w of an until's window at t, where left is lowest at no tick from t to w
-  pub record Open (left : ℕ → Span K.Value) (a b t w : ℕ) : Type 0 where
+  pub record LeftLasts (left : ℕ → Span K.Value) (a b t w : ℕ) : Type 0 where
     pub from : t + a ≤ w
     pub to : w ≤ t + b
     pub alive : (p : ℕ) → t ≤ p → p ≤ w → ¬ (Lowest (left p))
@@ -26,8 +26,8 @@ module _ (K : Kind) where
   Wants v (Eventually a b d) t c u = (c ≡ d) × (t + a ≤ u) × (u ≤ t + b)
   Wants v (Always a b d) t c u = (c ≡ d) × (t + a ≤ u) × (u ≤ t + b)
   Wants v (Until a b l r) t c u =
-      ((c ≡ r) × Open (v l) a b t u) ⊎
-      ((c ≡ l) × (t ≤ u) × ((w : ℕ) × (u ≤ w) × Open (v l) a b t w × ¬ (Lowest (v r w))))
+      ((c ≡ r) × LeftLasts (v l) a b t u) ⊎
+      ((c ≡ l) × (t ≤ u) × ((w : ℕ) × (u ≤ w) × LeftLasts (v l) a b t w × ¬ (Lowest (v r w))))
 
   -- row and tick, when the last row is asked for at the tick `asked_at`
   pub data Wanted (rows : List Row) (v : ℕ → ℕ → Span K.Value) (asked_at : ℕ) : ℕ → ℕ → Type 0 where

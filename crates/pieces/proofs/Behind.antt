@@ -3,7 +3,7 @@ use Rattle.std.proofs.Common.{◌≡◌, ℕ, ◌+◌, ◌≤◌, List, ◌++◌
 use Rattle.std.proofs.Math.Seq.{take-append-add, drop-append-add}
 use Rattle.std.proofs.lemmas.List.{drop-drop, length-take-le, length-drop}
 use Rattle.pieces.specs.declared.piece.Piece.{Piece}
-use Rattle.pieces.specs.Cells.{Put, Whole, Short}
+use Rattle.pieces.specs.Cells.{Put, CellsWhole, CellsShort}
 
 module _ {X : Type 0} (before front rest after : List X) (used : ℕ) (within : used ≤ length before) (first : front ≡ take used before) (last : rest ≡ drop used before) where
   first_size : length front ≡ used
@@ -24,7 +24,7 @@ module _ {X : Type 0} (before front rest after : List X) (used : ℕ) (within : 
       )
 
 module _ {V C : Type 0} (val : V → C) (f : ℕ → C) (before front rest after : List (Piece V)) (used : ℕ) (within : used ≤ length before) (first : front ≡ take used before) (last : rest ≡ drop used before) where
-  pub whole_behind : (n : ℕ) → Whole val f rest 0 after n → Whole val f before used (front ++ after) (used + n)
+  pub whole_behind : (n : ℕ) → CellsWhole val f rest 0 after n → CellsWhole val f before used (front ++ after) (used + n)
   whole_behind n w = record {
     pieces = w.pieces;
     size = omega (arith, w.size);
@@ -33,7 +33,7 @@ module _ {V C : Type 0} (val : V → C) (f : ℕ → C) (before front rest after
     listed = w.listed;
   }
 
-  pub short_behind : Short val f rest 0 after → Short val f before used (front ++ after)
+  pub short_behind : CellsShort val f rest 0 after → CellsShort val f before used (front ++ after)
   short_behind s = record {
     pieces = s.pieces;
     full = omega (arith, s.full, rest_size before front rest after used within first last);

@@ -4,7 +4,7 @@ use borrow.Author.Tests.{clash}
 use Rattle.std.proofs.lemmas.Bool.{leb-false, cases_lt}
 use Rattle.pieces.specs.declared.piece.Piece.{Piece}
 use Rattle.pieces.specs.Ticks.{Steady, Changed}
-use Rattle.pieces.specs.Pieces.{last_from, ordered, count_before, start_of, Holds, Lists}
+use Rattle.pieces.specs.Pieces.{last_from, ordered, count_before, start_of, HoldsTick, Lists}
 use Rattle.pieces.specs.Laws.{Holder, OneHolder}
 use Rattle.pieces.proofs.Steadies.{before_self}
 use Rattle.pieces.proofs.Orders.{first, rises, StartIs, Splits, found}
@@ -57,7 +57,7 @@ module _ {V : Type 0} where
   start_is (p ∷ ps) (suc k) d = let r = start_is ps k d in (λ h. r.0 (omega arith), λ h. r.1 (omega arith))
 
   -- some piece holds a tick that is not before the first start
-  holder_from : (p : Piece V) (ps : List (Piece V)) (t : ℕ) → p.start ≤ t → (k : ℕ) × Holds (p ∷ ps) t k
+  holder_from : (p : Piece V) (ps : List (Piece V)) (t : ℕ) → p.start ≤ t → (k : ℕ) × HoldsTick (p ∷ ps) t k
   holder_from p [] t h = (0, record { within = omega arith; from = λ d. h; behind = λ d l. absurd (omega arith) })
   holder_from p (q ∷ qs) t h = ⊎_elim
       (λ (b : t < q.start). (0, record { within = omega arith; from = λ d. h; behind = λ d l. b }))
@@ -69,22 +69,22 @@ module _ {V : Type 0} where
       next_in : (k : ℕ) (d : Piece V) → t < (get_or (q ∷ qs) (k + 1) d).start → t < (get_or (p ∷ (q ∷ qs)) (suc k + 1) d).start
       next_in k d l = let e : suc (k + 1) ≡ suc k + 1 = omega arith in subst (λ j. t < (get_or (p ∷ (q ∷ qs)) j d).start) e l
 
-  pub holder_of : (ps : List (Piece V)) (t : ℕ) → ordered ps ≡ true → (k : ℕ) × Holds ps t k
+  pub holder_of : (ps : List (Piece V)) (t : ℕ) → ordered ps ≡ true → (k : ℕ) × HoldsTick ps t k
   holder_of [] t e = absurd (clash e)
   holder_of (p ∷ ps) t e = let z : p.start ≡ 0 = (first (p ∷ ps) e).1 p in holder_from p ps t (omega arith)
 
-  module _ (ps : List (Piece V)) (t k : ℕ) (e : ordered ps ≡ true) (h : Holds ps t k) where
+  module _ (ps : List (Piece V)) (t k : ℕ) (e : ordered ps ≡ true) (h : HoldsTick ps t k) where
     -- the pieces behind it start later
     pub holds_last : (j : ℕ) (d : Piece V) → k < j → j < length ps → t < (get_or ps j d).start
     holds_last j d l within = omega (arith, h.behind d (omega arith), rises ps e (k + 1) j d (omega arith) within)
 
-    holds_first : (j : ℕ) (d : Piece V) → Holds ps t j → j ≤ k
+    holds_first : (j : ℕ) (d : Piece V) → HoldsTick ps t j → j ≤ k
     holds_first j d g = ⊎_elim
         (λ (l : k < j). absurd (omega (arith, holds_last j d l g.within, g.from d)))
         (λ (l : j ≤ k). l)
         (cases_lt k j)
 
-  pub holds_one : (ps : List (Piece V)) (t k j : ℕ) → ordered ps ≡ true → Holds ps t k → Holds ps t j → j ≡ k
+  pub holds_one : (ps : List (Piece V)) (t k j : ℕ) → ordered ps ≡ true → HoldsTick ps t k → HoldsTick ps t j → j ≡ k
   holds_one [] t k j e h g = absurd (omega (arith, h.within))
   holds_one (p ∷ ps) t k j e h g = omega (arith, holds_first (p ∷ ps) t k e h j p g, holds_first (p ∷ ps) t j e g k p h)
 
@@ -92,13 +92,13 @@ module _ {C : Type 0} (f : ℕ → C) (ps : List (Piece C)) (t : ℕ) (l : Lists
   ok : ordered ps ≡ true
   ok = canonical_ordered ps l.0
 
-  tells : (k : ℕ) → Holds ps t k → (d : Piece C) → Steady f t (get_or ps k d).value (start_of ps (k + 1)) × Changed f (get_or ps k d).value (start_of ps (k + 1))
+  tells : (k : ℕ) → HoldsTick ps t k → (d : Piece C) → Steady f t (get_or ps k d).value (start_of ps (k + 1)) × Changed f (get_or ps k d).value (start_of ps (k + 1))
   tells k h d = next_change C f ps t (get_or ps k d).value (start_of ps (k + 1)) l (found ps t k d (start_of ps (k + 1)) ok h (start_is ps (k + 1) d))
 
-  value_is : (k : ℕ) → Holds ps t k → (d : Piece C) → (get_or ps k d).value ≡ f t
+  value_is : (k : ℕ) → HoldsTick ps t k → (d : Piece C) → (get_or ps k d).value ≡ f t
   value_is k h d = let s = (tells k h d).0 in s.1 t (omega arith) (before_self t (start_of ps (k + 1)) s.0)
 
-  holder : (k : ℕ) → Holds ps t k → (d : Piece C) → Holder C f ps t k
+  holder : (k : ℕ) → HoldsTick ps t k → (d : Piece C) → Holder C f ps t k
   holder k h d =
       let v = value_is k h d in
       let r = tells k h d in

@@ -4,7 +4,7 @@ use borrow.Author.Tests.{lt-leb, clash}
 use Rattle.std.proofs.lemmas.Bool.{leb-false}
 use Rattle.std.specs.List.Sorted.{IsNonDecreasingBy, IsPartitionPoint}
 use Rattle.pieces.specs.declared.piece.Piece.{Piece}
-use Rattle.pieces.specs.Pieces.{at_from, next_from, ordered, ascending, Found, Holds}
+use Rattle.pieces.specs.Pieces.{at_from, next_from, ordered, ascending, Found, HoldsTick}
 
 pub cond-true : (b x : Bool) → cond b x false ≡ true → (b ≡ true) × (x ≡ true)
 cond-true true x e = (refl, e)
@@ -55,7 +55,7 @@ module _ {V : Type 0} where
       (r.0 ∙ sym (ap (λ (b : Bool). cond b (at_from q.value qs t) p.value) e), r.1 ∙ sym (ap (λ (b : Bool). cond b (next_from qs t) (Some q.start)) e))
 
   -- of the piece that holds t: its value is in force, and the next change is where the one behind it starts
-  pub found : (xs : List (Piece V)) (t k : ℕ) (d : Piece V) (o : Option ℕ) → ordered xs ≡ true → Holds xs t k → StartIs xs (k + 1) d o → Found xs t (get_or xs k d).value o
+  pub found : (xs : List (Piece V)) (t k : ℕ) (d : Piece V) (o : Option ℕ) → ordered xs ≡ true → HoldsTick xs t k → StartIs xs (k + 1) d o → Found xs t (get_or xs k d).value o
   found [] t k d o e h n = absurd (clash e)
   found (p ∷ ps) t k d o e h n =
       let both = cond-true (eqb p.start 0) (ascending 0 ps) e in
@@ -75,7 +75,7 @@ module _ {V : Type 0} where
   splits_some (p ∷ ps) t (suc n) e s = omega arith
 
   -- the last of them holds t
-  pub splits_holds : (xs : List (Piece V)) (t n : ℕ) → ordered xs ≡ true → n ≤ length xs → Splits xs t n → Holds xs t (n - 1)
+  pub splits_holds : (xs : List (Piece V)) (t n : ℕ) → ordered xs ≡ true → n ≤ length xs → Splits xs t n → HoldsTick xs t (n - 1)
   splits_holds xs t n e l s =
       let some = splits_some xs t n e s in
       record {

@@ -4,7 +4,7 @@ use Rattle.std.proofs.lemmas.List.{length_push}
 use Rattle.pieces.specs.declared.piece.Piece.{Piece}
 use Rattle.pieces.specs.Ticks.{Steady}
 use Rattle.pieces.specs.Pieces.{last_from}
-use Rattle.pieces.specs.Cells.{meant, shown, Put, Whole, Short}
+use Rattle.pieces.specs.Cells.{meant, shown, Put, CellsWhole, CellsShort}
 use Rattle.pieces.proofs.Steadies.{before_self}
 use Rattle.pieces.proofs.Shows.{shown_push}
 use Rattle.pieces.proofs.Chains.{Chain, chain_extend, chain_push, chain_listed, chain_begun, last_push}
@@ -67,7 +67,7 @@ module _ {V C : Type 0} (val : V → C) (f : ℕ → C) where
     all_put = put_first before cells used (piece 0 first) G.pieces room G.put
 
     -- the signal changes no more
-    pub going_whole : next ≡ None → Whole val f before used cells end
+    pub going_whole : next ≡ None → CellsWhole val f before used cells end
     going_whole e = record {
       pieces = piece 0 first ∷ G.pieces;
       size = omega (arith, G.size);
@@ -77,7 +77,7 @@ module _ {V C : Type 0} (val : V → C) (f : ℕ → C) where
     }
 
     -- a piece is wanted, and no cell is left
-    pub going_short : (t : ℕ) (v : V) (o : Option ℕ) → next ≡ Some t → (val v ≡ val last → ⊥) → length cells ≤ end → Steady f t (val v) o → Short val f before used cells
+    pub going_short : (t : ℕ) (v : V) (o : Option ℕ) → next ≡ Some t → (val v ≡ val last → ⊥) → length cells ≤ end → Steady f t (val v) o → CellsShort val f before used cells
     going_short t v o e n h st = record {
       pieces = piece 0 first ∷ G.pieces;
       full = omega (arith, G.size, same_length);
@@ -88,5 +88,5 @@ module _ {V C : Type 0} (val : V → C) (f : ℕ → C) where
     }
 
   -- there is no cell at all
-  pub no_room : (before : List (Piece V)) (used : ℕ) → length before ≤ used → Short val f before used before
+  pub no_room : (before : List (Piece V)) (used : ℕ) → length before ≤ used → CellsShort val f before used before
   no_room before used h = record { pieces = []; full = omega arith; put = put_none before used; begins = tt }

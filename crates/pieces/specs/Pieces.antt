@@ -55,7 +55,7 @@ module _ {C : Type 0} where
   Found (p ∷ ps) t v o = (v ≡ at_from p.value ps t) × (o ≡ next_from ps t)
 
   -- the piece at k is the one that holds t: it starts at t or before, and the piece behind it, if there is one, starts after t
-  pub record Holds (ps : List (Piece C)) (t k : ℕ) : Type 0 where
+  pub record HoldsTick (ps : List (Piece C)) (t k : ℕ) : Type 0 where
     pub within : k < length ps
     pub from : (d : Piece C) → (slice_index_or ps k d).start ≤ t
     pub behind : (d : Piece C) → k + 1 < length ps → t < (slice_index_or ps (k + 1) d).start
@@ -87,6 +87,6 @@ module _ {C : Type 0} where
     pub agrees : (t : ℕ) → t < until → at_from p.value ps t ≡ f t
     pub differs : last_from p.value ps ≡ f until → ⊥
 
-  abbrev pub Begins : (ℕ → C) → List (Piece C) → Type 0
-  Begins f [] = Unit {0}
-  Begins f (p ∷ ps) = Begun f p ps
+  abbrev pub ListBegins : (ℕ → C) → List (Piece C) → Type 0
+  ListBegins f [] = Unit {0}
+  ListBegins f (p ∷ ps) = Begun f p ps

@@ -1,6 +1,6 @@
 // Piece lists over a slice that someone else holds.
 ghost use Rattle.std.specs.Prelude.{◌≡◌, ◌+◌, ◌-◌, ◌≤◌, true, false, MatchOption, IsTrue, ◌↔◌};
-ghost use Rattle.pieces.specs.Pieces.{ordered, at_list, count_before, Found, Holds};
+ghost use Rattle.pieces.specs.Pieces.{ordered, at_list, count_before, Found, HoldsTick};
 ghost use Rattle.pieces.specs.Ticks.{FirstTick};
 
 use crate::piece::Piece;
@@ -36,7 +36,7 @@ fn is_ordered<V: Copy>(pieces: &[Piece<V>]) -> bool
 
 // Whether it is the piece at k that holds t.
 fn holds<V: Copy>(pieces: &[Piece<V>], t: u64, k: usize) -> bool
-    ensures { IsTrue result ↔ Holds pieces.now t k }
+    ensures { IsTrue result ↔ HoldsTick pieces.now t k }
 {
     let count = pieces.len();
     k < count && pieces[k].start as u64 <= t && (k + 1 == count || t < pieces[k + 1].start as u64)
@@ -58,7 +58,7 @@ impl<'a, V: Copy> PieceList<'a, V> {
     pub fn started(&self, t: u64) -> usize
         ensures count { result ≡ count_before (t + 1) self.now.pieces.now }
         ensures some { 1 ≤ result }
-        ensures last { Holds self.now.pieces.now t (result - 1) }
+        ensures last { HoldsTick self.now.pieces.now t (result - 1) }
     {
         self.pieces.partition_point(|piece| piece.start as u64 <= t)
     }
@@ -75,7 +75,7 @@ impl<'a, V: Copy> PieceList<'a, V> {
 
     // The place of the piece that holds t; it is often near or the one behind it.
     fn place_near(&self, t: u64, near: usize) -> usize
-        ensures { Holds self.now.pieces.now t result }
+        ensures { HoldsTick self.now.pieces.now t result }
     {
         let pieces = self.pieces;
         let behind = near.saturating_add(1);
@@ -101,7 +101,7 @@ impl<'a, V: Copy> PieceList<'a, V> {
     /// The same, with the place of the piece; it tries near and the place behind it before it searches.
     pub fn lookup_near(&self, t: u64, near: usize) -> (V, Option<u32>, usize)
         ensures found { Found self.now.pieces.now t result.0 result.1 }
-        ensures place { Holds self.now.pieces.now t result.2 }
+        ensures place { HoldsTick self.now.pieces.now t result.2 }
     {
         let pieces = self.pieces;
         let at = self.place_near(t, near);

@@ -3,7 +3,7 @@ use Rattle.std.proofs.Common.{◌≡◌, ℕ, ◌-◌, ◌<◌, ◌≤◌, min, 
 use Rattle.std.specs.Bool.{MatchBool}
 use Rattle.std.specs.List.{range_with_len, AllWithin, HoldsAt}
 use Rattle.std.proofs.lemmas.List.FromFn.{length-range_with_len, get_or-range_with_len}
-use Rattle.reference.specs.Known.{Tells}
+use Rattle.grades.specs.Kinds.{Tells}
 
 pub each_tested : (P : ℕ → Type 0) (from to end first n : ℕ) (b : Bool) → first ≡ min from (min to end) → n ≡ min to end - first → MatchBool b (AllWithin P (range_with_len first n) 0 (length (range_with_len first n))) ((k : ℕ) × (k < length (range_with_len first n)) × HoldsAt (λ t. P t → ⊥) (range_with_len first n) k) → Tells b ((t : ℕ) → from ≤ t → t < to → t < end → P t)
 each_tested P from to end first n true s e h = λ t low high last.

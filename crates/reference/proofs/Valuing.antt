@@ -11,7 +11,7 @@ use Rattle.reference.specs.declared.ends.Ends.{Ends}
 use Rattle.reference.specs.declared.forecast.Forecast.{Forecast}
 use Rattle.reference.specs.declared.values.Values.{Values}
 use Rattle.reference.specs.Gradings.{Grading}
-use Rattle.reference.specs.Known.{reading, kept}
+use Rattle.reference.specs.Known.{forecast_reading, kept}
 use Rattle.reference.specs.Tables.{nothing, in_row, value_at}
 use Rattle.reference.specs.RowValues.{graded_gaps, Turned, lower_ends, upper_ends, Graded, Valued}
 
@@ -19,7 +19,7 @@ pub filled_on : {A : Type 0} (P : ℕ → A → Type 0) (xs : List A) (n : ℕ) 
 filled_on P xs n x d here before now u less = elim (eq-or-lt_of_le (omega arith)) [ inl e ↦ subst (λ k. P k (slice_index_or (slice_set xs n x) k d)) (sym e) (subst (P n) (sym (get_or-set_same xs n x d here)) now) | inr l ↦ subst (P u) (sym (get_or-set_other xs n u x d (λ e. omega arith))) (before u l) ]
 
 -- what a row has goes by its line's reading and its children's values alone
-pub graded_alike : (S : Grading) (f : Forecast) (v w : Values) (row : Row) (t u : ℕ) (e : Ends) → ((line : ℕ) → reading f line t ≡ reading f line u) → ((c : ℕ) → Child row c → value_at w c t ≡ value_at v c u) → Graded S f v row u e → Graded S f w row t e
+pub graded_alike : (S : Grading) (f : Forecast) (v w : Values) (row : Row) (t u : ℕ) (e : Ends) → ((line : ℕ) → forecast_reading f line t ≡ forecast_reading f line u) → ((c : ℕ) → Child row c → value_at w c t ≡ value_at v c u) → Graded S f v row u e → Graded S f w row t e
 graded_alike S f v w (Test line side limit) t u e lines same h = h ∙ ap (λ p. graded_gaps S p side limit) (sym (lines line))
 graded_alike S f v w (Not c) t u e lines same h = subst (λ p. Turned S p e) (sym (same c refl)) h
 graded_alike S f v w (And l r) t u e lines same h = subst (λ p. e ≡ lower_ends p (value_at w r t)) (sym (same l (inl refl))) (subst (λ q. e ≡ lower_ends (value_at v l u) q) (sym (same r (inr refl))) h)

@@ -14,7 +14,7 @@ pub record Grading : Type 1 where
   pub lowest : ℤ
   pub highest : ℤ
 
-pub record Lawful (G : Grading) : Type 0 where
+pub record GradingLaws (G : Grading) : Type 0 where
   pub gap_graded : (z : ℤ) → GapFits z → G.Grade (G.of_gap z)
   pub gap_rises : (y z : ℤ) → y ≤ℤ z → G.of_gap y ≤ℤ G.of_gap z
   pub opposite_graded : (z : ℤ) → G.Grade z → G.Grade (G.opposite z)
@@ -26,14 +26,14 @@ pub record Lawful (G : Grading) : Type 0 where
   pub highest_above : (z : ℤ) → G.Grade z → z ≤ℤ G.highest
 
 -- 0 and 1 for false and true: a gap is true from 0 up
-abbrev pub truths : Grading
-truths = record { Grade = λ z. (z ≡ pos 0) ⊎ (z ≡ pos 1); of_gap = λ z. cond (int_le (pos 0) z) (pos 1) (pos 0); opposite = λ z. pos 1 -ℤ z; lowest = pos 0; highest = pos 1 }
+abbrev pub truth_grading : Grading
+truth_grading = record { Grade = λ z. (z ≡ pos 0) ⊎ (z ≡ pos 1); of_gap = λ z. cond (int_le (pos 0) z) (pos 1) (pos 0); opposite = λ z. pos 1 -ℤ z; lowest = pos 0; highest = pos 1 }
 
 -- a gap is its own grade, and the opposite is the negative
-abbrev pub margins : Grading
-margins = record { Grade = GapFits; of_gap = λ z. z; opposite = neg_ℤ; lowest = negsuc 999999; highest = pos 1000000 }
+abbrev pub margin_grading : Grading
+margin_grading = record { Grade = GapFits; of_gap = λ z. z; opposite = neg_ℤ; lowest = negsuc 999999; highest = pos 1000000 }
 
-either : (b : Bool) → truths.Grade (cond b (pos 1) (pos 0))
+either : (b : Bool) → truth_grading.Grade (cond b (pos 1) (pos 0))
 either true = inr refl
 either false = inl refl
 
@@ -46,32 +46,32 @@ below_one true true t = le_z_yes tt
 below_one false true t = le_z_yes tt
 below_one b false t = absurd t
 
-reached_rises : (y z : ℤ) → y ≤ℤ z → truths.of_gap y ≤ℤ truths.of_gap z
-reached_rises (pos m) (pos n) h = below_one (int_le (pos 0) (pos m)) (int_le (pos 0) (pos n)) (le→leb 0 n zero-le)
-reached_rises (pos m) (negsuc n) h = absurd h.le
-reached_rises (negsuc m) z h = above_zero (int_le (pos 0) z)
+truth_gap_rises : (y z : ℤ) → y ≤ℤ z → truth_grading.of_gap y ≤ℤ truth_grading.of_gap z
+truth_gap_rises (pos m) (pos n) h = below_one (int_le (pos 0) (pos m)) (int_le (pos 0) (pos n)) (le→leb 0 n zero-le)
+truth_gap_rises (pos m) (negsuc n) h = absurd h.le
+truth_gap_rises (negsuc m) z h = above_zero (int_le (pos 0) z)
 
 -- 1 less a number
 abbrev from_one : ℤ → ℤ
 from_one z = pos 1 -ℤ z
 
-turned_graded : (z : ℤ) → truths.Grade z → truths.Grade (pos 1 -ℤ z)
+turned_graded : (z : ℤ) → truth_grading.Grade z → truth_grading.Grade (pos 1 -ℤ z)
 turned_graded z h = elim h [ inl e ↦ inr (ap from_one e) | inr e ↦ inl (ap from_one e) ]
 
-graded_twice : (z : ℤ) → truths.Grade z → from_one (from_one z) ≡ z
+graded_twice : (z : ℤ) → truth_grading.Grade z → from_one (from_one z) ≡ z
 graded_twice z h = elim h [ inl e ↦ ap (λ x. from_one (from_one x)) e ∙ sym e | inr e ↦ ap (λ x. from_one (from_one x)) e ∙ sym e ]
 
-zero_below : (z : ℤ) → truths.Grade z → pos 0 ≤ℤ z
+zero_below : (z : ℤ) → truth_grading.Grade z → pos 0 ≤ℤ z
 zero_below z h = elim h [ inl e ↦ subst (λ x. pos 0 ≤ℤ x) (sym e) (le_z_yes tt) | inr e ↦ subst (λ x. pos 0 ≤ℤ x) (sym e) (le_z_yes tt) ]
 
-one_above : (z : ℤ) → truths.Grade z → z ≤ℤ pos 1
+one_above : (z : ℤ) → truth_grading.Grade z → z ≤ℤ pos 1
 one_above z h = elim h [ inl e ↦ subst (λ x. x ≤ℤ pos 1) (sym e) (le_z_yes tt) | inr e ↦ subst (λ x. x ≤ℤ pos 1) (sym e) (le_z_yes tt) ]
 
-turned_from_one : (y z : ℤ) → truths.Grade y → truths.Grade z → y ≤ℤ z → from_one z ≤ℤ from_one y
+turned_from_one : (y z : ℤ) → truth_grading.Grade y → truth_grading.Grade z → y ≤ℤ z → from_one z ≤ℤ from_one y
 turned_from_one y z g h k = elim h [ inl e ↦ elim g [ inl f ↦ subst (λ x. from_one z ≤ℤ from_one x) (sym f) (subst (λ x. from_one x ≤ℤ pos 1) (sym e) (le_z_yes tt)) | inr f ↦ absurd (subst (λ x. x ≤ℤ pos 0) f (subst (λ x. y ≤ℤ x) e k)).le ] | inr e ↦ subst (λ x. from_one x ≤ℤ from_one y) (sym e) (zero_below (from_one y) (turned_graded y g)) ]
 
-pub truths_lawful : Lawful truths
-truths_lawful = record { gap_graded = λ z h. either (int_le (pos 0) z); gap_rises = reached_rises; opposite_graded = turned_graded; opposite_twice = graded_twice; opposite_turns = turned_from_one; lowest_graded = inl refl; lowest_below = zero_below; highest_graded = inr refl; highest_above = one_above }
+pub truth_grading_lawful : GradingLaws truth_grading
+truth_grading_lawful = record { gap_graded = λ z h. either (int_le (pos 0) z); gap_rises = truth_gap_rises; opposite_graded = turned_graded; opposite_twice = graded_twice; opposite_turns = turned_from_one; lowest_graded = inl refl; lowest_below = zero_below; highest_graded = inr refl; highest_above = one_above }
 
-pub margins_lawful : Lawful margins
-margins_lawful = record { gap_graded = λ z h. h; gap_rises = λ y z h. h; opposite_graded = turned_fits; opposite_twice = λ z h. turned_twice z; opposite_turns = λ y z _ _ h. turned_below y z h; lowest_graded = (le_z_yes tt, le_z_yes tt); lowest_below = λ z h. h.0; highest_graded = (le_z_yes tt, le_z_yes tt); highest_above = λ z h. h.1 }
+pub margin_grading_lawful : GradingLaws margin_grading
+margin_grading_lawful = record { gap_graded = λ z h. h; gap_rises = λ y z h. h; opposite_graded = turned_fits; opposite_twice = λ z h. turned_twice z; opposite_turns = λ y z _ _ h. turned_below y z h; lowest_graded = (le_z_yes tt, le_z_yes tt); lowest_below = λ z h. h.0; highest_graded = (le_z_yes tt, le_z_yes tt); highest_above = λ z h. h.1 }

@@ -10,7 +10,7 @@ use Rattle.reference.specs.declared.ends.Ends.{Ends}
 use Rattle.reference.specs.declared.forecast.Forecast.{Forecast}
 use Rattle.reference.specs.declared.values.Values.{Values}
 use Rattle.reference.specs.Gradings.{Grading}
-use Rattle.reference.specs.Known.{reading}
+use Rattle.reference.specs.Known.{forecast_reading}
 use Rattle.reference.specs.Tables.{nothing, value_at}
 
 -- one number less the other in 32 bits, which is their difference where they are a reading and a limit in bounds
@@ -35,7 +35,7 @@ upper_ends p q = record { lower = int_max p.lower q.lower; upper = int_max p.upp
 
 -- the value that the row has at the tick, with these values for its children; of a row with a window nothing is said
 abbrev pub Graded : Grading → Forecast → Values → Row → ℕ → Ends → Type 0
-Graded S f v (Test line side limit) t e = e ≡ graded_gaps S (reading f line t) side limit
+Graded S f v (Test line side limit) t e = e ≡ graded_gaps S (forecast_reading f line t) side limit
 Graded S f v (Not c) t e = Turned S (value_at v c t) e
 Graded S f v (And l r) t e = e ≡ lower_ends (value_at v l t) (value_at v r t)
 Graded S f v (Or l r) t e = e ≡ upper_ends (value_at v l t) (value_at v r t)

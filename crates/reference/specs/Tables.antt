@@ -27,18 +27,18 @@ abbrev pub wanted_at : Wants → ℕ → ℕ → Bool
 wanted_at wants row t = said_of (slice_get wants.rows row) t
 
 -- there is such a row, and it is a test
-abbrev pub is_test : Option Row → Bool
-is_test (Some (Test line side limit)) = true
-is_test (Some (Not c)) = false
-is_test (Some (And l r)) = false
-is_test (Some (Or l r)) = false
-is_test (Some (Eventually a b c)) = false
-is_test (Some (Always a b c)) = false
-is_test (Some (Until a b l r)) = false
-is_test None = false
+abbrev pub is_some_test : Option Row → Bool
+is_some_test (Some (Test line side limit)) = true
+is_some_test (Some (Not c)) = false
+is_some_test (Some (And l r)) = false
+is_some_test (Some (Or l r)) = false
+is_some_test (Some (Eventually a b c)) = false
+is_some_test (Some (Always a b c)) = false
+is_some_test (Some (Until a b l r)) = false
+is_some_test None = false
 
 -- the row is a test that is wanted at the tick and not settled there
 pub record Waits (rows : List Row) (values : Values) (wants : Wants) (row t : ℕ) : Type 0 where
-  pub tests : is_test (slice_get rows row) ≡ true
+  pub tests : is_some_test (slice_get rows row) ≡ true
   pub wanted : wanted_at wants row t ≡ true
   pub unsettled : (value_at values row t).lower ≢ (value_at values row t).upper

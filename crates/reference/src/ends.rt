@@ -1,8 +1,9 @@
 // Ranges of grades as plain numbers.
 ghost use Rattle.std.specs.Prelude.{◌≡◌, ℤ, pos, negsuc, refl};
 ghost use Rattle.std.specs.Int.{int_min, int_max};
-ghost use Rattle.reference.specs.Gradings.{Grading, Lawful, truths, margins, truths_lawful, margins_lawful};
-ghost use Rattle.reference.specs.Known.{ends_of, Tells, Within};
+ghost use Rattle.reference.specs.Gradings.{Grading, GradingLaws, truth_grading, margin_grading, truth_grading_lawful, margin_grading_lawful};
+ghost use Rattle.grades.specs.Kinds.{Tells};
+ghost use Rattle.reference.specs.Known.{ends_of, EndsWithin};
 
 use cases::field::Entry;
 
@@ -23,7 +24,7 @@ pub trait Scale {
 
     ghost lowest: { LOWEST ≡ grading.lowest };
 
-    ghost lawful: { Lawful grading };
+    ghost lawful: { GradingLaws grading };
 }
 
 // 0 and 1 for false and true.
@@ -34,11 +35,11 @@ impl Scale for Truths {
 
     ghost LOWEST = { pos 0 };
 
-    ghost grading = { truths };
+    ghost grading = { truth_grading };
 
     ghost lowest = { refl };
 
-    ghost lawful = { truths_lawful };
+    ghost lawful = { truth_grading_lawful };
 
     fn grade(gap: i32) -> i32 {
         (gap >= 0) as i32
@@ -57,11 +58,11 @@ impl Scale for Margins {
 
     ghost LOWEST = { negsuc 999999 };
 
-    ghost grading = { margins };
+    ghost grading = { margin_grading };
 
     ghost lowest = { refl };
 
-    ghost lawful = { margins_lawful };
+    ghost lawful = { margin_grading_lawful };
 
     fn grade(gap: i32) -> i32 {
         gap
@@ -130,7 +131,7 @@ impl Ends {
     }
 
     pub fn inside(self, other: Ends) -> bool
-        ensures { Tells result (Within self other) }
+        ensures { Tells result (EndsWithin self other) }
     {
         other.lower <= self.lower && self.upper <= other.upper
     }

@@ -1,7 +1,8 @@
 // What is known of up to three lines, kept tick by tick up to a horizon.
 ghost use Rattle.std.specs.Prelude.{◌≡◌, ℕ, ◌<◌, ◌≤◌, ◌⊎◌, min, slice_index_or};
 ghost use Rattle.reference.specs.declared.ends.Ends.{Ends};
-ghost use Rattle.reference.specs.Known.{ends_of, reading, Within, Tells, Narrows, Opened, Answered, Set, Kept, Left, Changed, FirstWidest};
+ghost use Rattle.grades.specs.Kinds.{Tells};
+ghost use Rattle.reference.specs.Known.{ends_of, forecast_reading, EndsWithin, EntryNarrows, NewForecast, EntryAnswer, SetsInForecast, OthersKept, Left, NextDifferent, FirstWidest};
 
 use crate::ends::Ends;
 use cases::field::Entry;
@@ -52,7 +53,7 @@ fn filled(mut readings: [Ends; TICKS], entry: Entry) -> [Ends; TICKS]
 impl Forecast {
     // So many lines, as far as they are kept, of which nothing is known.
     pub fn new(lines: usize) -> Forecast
-        ensures { Opened lines result }
+        ensures { NewForecast lines result }
     {
         Forecast {
             lines: lines.min(LINES),
@@ -63,7 +64,7 @@ impl Forecast {
     }
 
     pub fn reading(&self, line: usize, t: usize) -> Ends
-        ensures { result ≡ reading self.now line t }
+        ensures { result ≡ forecast_reading self.now line t }
     {
         match self.readings.get(line) {
             Some(readings) => readings[t.min(HORIZON)],
@@ -73,7 +74,7 @@ impl Forecast {
 
     // What an entry that ends by the horizon is answered.
     pub fn answer(&self, entry: Entry) -> Result<(), EnterFault>
-        ensures { Answered self.now entry result }
+        ensures { EntryAnswer self.now entry result }
     {
         if self.sealed {
             return Err(EnterFault::Sealed);
@@ -95,15 +96,15 @@ impl Forecast {
 
     // Whether the entry is inside what is known, wherever it is set.
     fn narrowed_by(&self, entry: Entry) -> bool
-        ensures { Tells result (Narrows self.now entry) }
+        ensures { Tells result (EntryNarrows self.now entry) }
     {
         let ends = Ends::from(entry);
         kept_ticks(entry).all(|t| ends.inside(self.reading(entry.line as usize, t)))
     }
 
     fn set(&mut self, entry: Entry)
-        ensures readings { Set self.old entry self.new }
-        ensures others { Kept self.old self.new }
+        ensures readings { SetsInForecast self.old entry self.new }
+        ensures others { OthersKept self.old self.new }
     {
         let line = entry.line as usize;
         if line < LINES {
@@ -113,7 +114,7 @@ impl Forecast {
 
     // Makes the entry, unless it is refused.
     pub fn enter(&mut self, entry: Entry) -> Result<(), EnterFault>
-        ensures answer { Answered self.old entry result }
+        ensures answer { EntryAnswer self.old entry result }
         ensures left { Left self.old entry result self.new }
     {
         self.answer(entry)?;
@@ -124,7 +125,7 @@ impl Forecast {
 
     // The first tick behind t at which the line reads otherwise, if there is one.
     pub fn change(&self, line: usize, t: usize) -> Option<usize>
-        ensures { Changed self.now line t result }
+        ensures { NextDifferent self.now line t result }
     {
         let reading = self.reading(line, t);
         (t..TICKS).find(|u| self.reading(line, *u) != reading)

@@ -1,5 +1,5 @@
 // At which ticks a verdict waits for a test row.
-ghost use Rattle.reference.specs.Known.{Tells};
+ghost use Rattle.grades.specs.Kinds.{Tells};
 ghost use Rattle.reference.specs.Tables.{Waits};
 
 use crate::values::Values;

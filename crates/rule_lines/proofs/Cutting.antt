@@ -4,11 +4,11 @@ use Rattle.std.proofs.lemmas.List.{take_all, take-take, length-take, length-take
 use Rattle.std.proofs.lemmas.Bool.{cases_lt}
 use Rattle.tokens.specs.declared.token.Token.{Token}
 use Rattle.tokens.specs.declared.token.Token.TheVariants.{Or, And, Not, Open, Close, Left, Right, Comma, Minus, Always, Eventually, Until, AtLeast, AtMost, Name, Number}
-use Rattle.tokens.specs.Words.{Small, Begins, IsName, LineOf, Spells}
-use Rattle.tokens.specs.Splits.{Reads, nothing, blank, word, NoToken, no_word, no_form}
+use Rattle.tokens.specs.Words.{Small, FirstByte, IsName, LineOf, Spells}
+use Rattle.tokens.specs.Splits.{ReadsWords, nothing, blank, word, NoToken, no_word, no_form}
 use Rattle.rules.specs.Texts.{Answer, Answered, empty, long, no_token, parsed}
 use Rattle.rule_lines.specs.Lines.{parts}
-use Rattle.rule_lines.specs.Kept.{Cut}
+use Rattle.rule_lines.specs.Kept.{PartsCut}
 
 -- nine bytes tell whether a part is a word of eight at most
 same_word : (v w : List ℕ) → length w ≤ 8 → take 9 v ≡ take 9 w → v ≡ w
@@ -19,7 +19,7 @@ same_word v w short e =
     (λ many. absurd (omega (arith, ap length (e ∙ whole), length-take-le 9 v (omega arith))))
     (cases_lt (length v) 9)
 
-some_byte : (w : List ℕ) → Begins Small w → 0 < length w
+some_byte : (w : List ℕ) → FirstByte Small w → 0 < length w
 some_byte [] h = elim h [ ]
 some_byte (b ∷ w) h = omega arith
 
@@ -69,7 +69,7 @@ same_spelling ns ms alike w (Name line) h = (h.0, same_line ns ms alike w h.0 li
 same_spelling ns ms alike w (Number n) h = h
 
 module _ (ns ms : List (List ℕ)) (alike : Alike ns ms) where
-  same_reads : {p q : ℕ} {text rest places : List ℕ} {tokens : List Token} → Reads ns p text q rest places tokens → Reads ms p text q rest places tokens
+  same_reads : {p q : ℕ} {text rest places : List ℕ} {tokens : List Token} → ReadsWords ns p text q rest places tokens → ReadsWords ms p text q rest places tokens
   same_reads nothing = nothing
   same_reads (blank b r) = blank b (same_reads r)
   same_reads (word {w = w} {token = t} e s l r) = word e (same_spelling ns ms alike w t s) l (same_reads r)
@@ -98,7 +98,7 @@ whole_text names text r h =
     too_long full (no_token at some few s e) = absurd (omega arith)
     too_long full (parsed places ts some few s p) = absurd (omega arith)
 
-pub answered : (line text : List ℕ) (cells : List (List ℕ)) (r : Answer) → Cut line cells → Answered cells (take 1025 text) r → Answered (parts line) text r
+pub answered : (line text : List ℕ) (cells : List (List ℕ)) (r : Answer) → PartsCut line cells → Answered cells (take 1025 text) r → Answered (parts line) text r
 answered line text cells r cut h =
     let alike : Alike cells (parts line) = λ k few. ap (take 9) (cut k few) ∙ take-take 9 9 (get_or (parts line) k []) (omega arith) in
     whole_text (parts line) text r (same_answer cells (parts line) alike (take 1025 text) r h)

@@ -4,7 +4,7 @@ use Rattle.tokens.specs.Answers.{texts}
 use Rattle.std.proofs.lemmas.List.{get_or-set_same, get_or-set_other, length_push, length-set, length-map, map-set, get_or-map}
 use Rattle.std.proofs.lemmas.Bool.{cases_eq, ne_eqb}
 use Rattle.rule_lines.specs.Lines.{later_parts, parts}
-use Rattle.rule_lines.specs.Kept.{held, Cut, NamesKept}
+use Rattle.rule_lines.specs.Kept.{held, PartsCut, NamesKept}
 use Rattle.rule_lines.specs.declared.front.Front.{Front}
 use Rattle.rule_lines.specs.declared.names.Names.{Names}
 use Rattle.rule_lines.proofs.Fronts.{onward}
@@ -17,7 +17,7 @@ get_or_nil_more [] (suc k) = refl
 get_or_nil_more (p ∷ ps) zero = refl
 get_or_nil_more (p ∷ ps) (suc k) = get_or_nil_more ps k
 
-pub cut_space : (line : List ℕ) (cells : List (List ℕ)) → Cut line cells → Cut (line ++ (32 ∷ [])) cells
+pub cut_space : (line : List ℕ) (cells : List (List ℕ)) → PartsCut line cells → PartsCut (line ++ (32 ∷ [])) cells
 cut_space line cells h k few =
     h k few ∙ sym (ap (take 9) (ap (λ (ps : List (List ℕ)). get_or ps k []) (space line) ∙ get_or_nil_more (parts line) k))
 
@@ -33,7 +33,7 @@ module _ (b : ℕ) (plain : eqb b 32 ≡ false) (line : List ℕ) (n : ℕ) (las
   part_elsewhere k ne =
       ap (λ (ps : List (List ℕ)). get_or ps k []) (other b plain line) ∙ get_or-set_other (parts line) (length (later_parts line)) k _ [] (λ e. ne (e ∙ last))
 
-  pub cut_push : (cells : List (List ℕ)) → length cells ≡ 16 → n < 16 → Cut line cells → Cut (line ++ (b ∷ [])) (set cells n (take 9 (get_or cells n [] ++ (b ∷ []))))
+  pub cut_push : (cells : List (List ℕ)) → length cells ≡ 16 → n < 16 → PartsCut line cells → PartsCut (line ++ (b ∷ [])) (set cells n (take 9 (get_or cells n [] ++ (b ∷ []))))
   cut_push cells all few h k below_16 =
       ⊎_elim
       (λ e. subst (λ (m : ℕ). get_or (set cells n (take 9 (get_or cells n [] ++ (b ∷ [])))) m [] ≡ take 9 (get_or (parts (line ++ (b ∷ []))) m [])) (sym e)
@@ -41,7 +41,7 @@ module _ (b : ℕ) (plain : eqb b 32 ≡ false) (line : List ℕ) (n : ℕ) (las
       (λ ne. get_or-set_other cells n k _ [] ne ∙ h k below_16 ∙ ap (take 9) (sym (part_elsewhere k ne)))
       (cases_eq k n)
 
-  pub cut_full : (cells : List (List ℕ)) → 16 ≤ n → Cut line cells → Cut (line ++ (b ∷ [])) cells
+  pub cut_full : (cells : List (List ℕ)) → 16 ≤ n → PartsCut line cells → PartsCut (line ++ (b ∷ [])) cells
   cut_full cells many h k below_16 = h k below_16 ∙ ap (take 9) (sym (part_elsewhere k (λ e. omega arith)))
 
   pub last_same : length (later_parts (line ++ (b ∷ []))) ≡ n
@@ -70,7 +70,7 @@ module _ (b : ℕ) (line : List ℕ) (names : Names) where
       let last : length (later_parts line) ≡ names.ended = omega (arith, h.ended) in
       let plain = ne_eqb b 32 ne in
       record {
-        cut = subst (Cut (line ++ (b ∷ []))) (sym (map-set held names.parts names.ended f ∙ ap (set (map held names.parts) names.ended) (is ∙ ap (λ (v : List ℕ). take 9 (v ++ (b ∷ []))) (sym here)))) (cut_push b plain line names.ended last (map held names.parts) (length-map names.parts held ∙ all) few h.cut);
+        cut = subst (PartsCut (line ++ (b ∷ []))) (sym (map-set held names.parts names.ended f ∙ ap (set (map held names.parts) names.ended) (is ∙ ap (λ (v : List ℕ). take 9 (v ++ (b ∷ []))) (sym here)))) (cut_push b plain line names.ended last (map held names.parts) (length-map names.parts held ∙ all) few h.cut);
         ended = omega (arith, h.ended, last_same b plain line names.ended last);
       }
 

@@ -2,7 +2,8 @@
 use Rattle.std.proofs.Common.{◌≡◌, ℕ, ◌<◌, Bool, true, false, cond, eqb, List, [], ◌∷◌, ◌++◌, length, sym, refl, ap, ◌∙◌, subst, inl, inr, ⊎_elim, arith}
 use Rattle.std.specs.List.{AllByRecursion}
 use Rattle.std.proofs.lemmas.Bool.{eqb-true, eqb-false, ne_eqb, cases_Bool}
-use Rattle.rule_lines.specs.Lines.{before, behind, has, later_parts, parts, names_in, text_in, spaced, Without, Says}
+use Rattle.tokens.specs.Bytes.{Without}
+use Rattle.rule_lines.specs.Lines.{before, behind, has, later_parts, parts, names_in, text_in, spaced, InputSays}
 use Rattle.rule_lines.proofs.Splitting.{before_none, behind_none}
 
 module _ (c : ℕ) where
@@ -52,7 +53,7 @@ clean_later : (line : List ℕ) → AllByRecursion (Without 32) (later_parts lin
 clean_later [] = tt
 clean_later (b ∷ line) = elim (eqb b 32) as (λ (t : Bool). AllByRecursion (Without 32) (cond t (parts line) (later_parts line))) [ true ↦ (clean 32 line, clean_later line) | false ↦ clean_later line ]
 
-pub says : (bytes : List ℕ) → Says bytes (names_in bytes) (text_in bytes)
+pub says : (bytes : List ℕ) → InputSays bytes (names_in bytes) (text_in bytes)
 says bytes =
     let line = before 10 bytes in
     let put = spaced_parts line in
@@ -90,7 +91,7 @@ parts_spaced [] some h = absurd (omega arith)
 parts_spaced (n ∷ []) some h = parts_one n h.0
 parts_spaced (n ∷ (m ∷ ns)) some h = parts_behind n (spaced (m ∷ ns)) h.0 ∙ ap (λ (v : List (List ℕ)). n ∷ v) (parts_spaced (m ∷ ns) (omega arith) h.1)
 
-module _ (bytes : List ℕ) (names : List (List ℕ)) (text : List ℕ) (h : Says bytes names text) where
+module _ (bytes : List ℕ) (names : List (List ℕ)) (text : List ℕ) (h : InputSays bytes names text) where
   line_is : before 10 bytes ≡ spaced names
   line_is =
       ⊎_elim

@@ -10,11 +10,11 @@ abbrev pub held : {n : ℕ} → Front n → List ℕ
 held f = take f.size f.bytes
 
 -- of each of the first 16 parts of the line the first 9 bytes, and nothing where there is no such part
-abbrev pub Cut : List ℕ → List (List ℕ) → Type 0
-Cut line cells = (k : ℕ) → k < 16 → slice_index_or cells k [] ≡ take 9 (slice_index_or (parts line) k [])
+abbrev pub PartsCut : List ℕ → List (List ℕ) → Type 0
+PartsCut line cells = (k : ℕ) → k < 16 → slice_index_or cells k [] ≡ take 9 (slice_index_or (parts line) k [])
 
 pub record NamesKept (line : List ℕ) (names : Names) : Type 0 where
-  pub cut : Cut line (map held names.parts)
+  pub cut : PartsCut line (map held names.parts)
   pub ended : names.ended ≡ min 16 (length (later_parts line))
 
 -- the names of the first line so, and of the text behind it the first 1,025 bytes

@@ -1,6 +1,7 @@
 -- How the input is split: names on the first line, and behind it the rule text.
 use Rattle.std.specs.Prelude.{◌≡◌, ℕ, ◌<◌, Bool, true, false, cond, ◌⊎◌, List, [], ◌∷◌, ◌++◌, length, ◌==◌, ◌≢◌}
 use Rattle.std.specs.List.{AllByRecursion}
+use Rattle.tokens.specs.Bytes.{Without}
 
 -- what stands before the first c, or all
 abbrev pub before : ℕ → List ℕ → List ℕ
@@ -37,10 +38,7 @@ spaced [] = []
 spaced (n ∷ []) = n
 spaced (n ∷ (m ∷ ns)) = n ++ (32 ∷ spaced (m ∷ ns))
 
-abbrev pub Without : ℕ → List ℕ → Type 0
-Without c bs = AllByRecursion (λ b. b ≢ c) bs
-
-pub record Says (bytes : List ℕ) (names : List (List ℕ)) (text : List ℕ) : Type 0 where
+pub record InputSays (bytes : List ℕ) (names : List (List ℕ)) (text : List ℕ) : Type 0 where
   pub whole : (bytes ≡ spaced names ++ (10 ∷ text)) ⊎ ((bytes ≡ spaced names) × (text ≡ []))
   pub one_line : Without 10 (spaced names)
   pub no_space : AllByRecursion (Without 32) names

@@ -6,7 +6,7 @@ use Rattle.rules.specs.declared.row.Row.TheVariants.{Test, Not, And, Or, Eventua
 use Rattle.rules.specs.declared.row.Side.{Side}
 use Rattle.rules.specs.declared.row.Side.TheVariants.{AtLeast, AtMost}
 use Rattle.rules.specs.declared.fault.RuleFault.{RuleFault}
-use Rattle.rules.specs.Faults.{fault_number, fault_place}
+use Rattle.rules.specs.Faults.{rule_fault_number, fault_place}
 use Rattle.rules.specs.Rows.{reach}
 use Rattle.rules.specs.Texts.{Answer}
 
@@ -38,7 +38,7 @@ abbrev pub table_text : List Row → List ℕ
 table_text rows = row_lines 0 rows ++ last_line (length rows) (reach rows)
 
 abbrev pub refusal_text : RuleFault → List ℕ
-refusal_text f = codes "refused " ++ (decimal (fault_number f) ++ (codes " byte " ++ (decimal (fault_place f) ++ (10 ∷ []))))
+refusal_text f = codes "refused " ++ (decimal (rule_fault_number f) ++ (codes " byte " ++ (decimal (fault_place f) ++ (10 ∷ []))))
 
 abbrev pub listing_of : Answer → List ℕ
 listing_of (Ok rows) = table_text rows

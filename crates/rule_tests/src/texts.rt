@@ -1,6 +1,6 @@
 // Rule texts, and those that are rules, at the edges of their limits.
 ghost use Rattle.std.specs.Prelude.{◌≡◌, IfOk, string_bytes};
-ghost use Rattle.rule_tests.specs.Texts.{put_together_lem, text_of};
+ghost use Rattle.rule_tests.specs.Texts.{text_repeated, text_of};
 
 use crate::outcome::Outcome;
 use crate::outcome::Outcome::Read;
@@ -31,7 +31,7 @@ fn put_together(
     backs: usize,
     back: &str,
 ) -> Result<String, AllocError>
-    ensures { IfOk result (λ s. string_bytes s ≡ put_together_lem fronts front.now middle.now backs back.now) }
+    ensures { IfOk result (λ s. string_bytes s ≡ text_repeated fronts front.now middle.now backs back.now) }
 {
     let mut text = front.repeat(heap, fronts)?;
     text.push_str(middle)?;

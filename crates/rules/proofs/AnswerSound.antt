@@ -5,8 +5,8 @@ use Rattle.rules.specs.declared.fault.RuleFault.{RuleFault}
 use Rattle.rules.specs.declared.fault.RuleFault.TheVariants.{UnknownName, OutOfBounds, TooDeep, TooManyRows, TooFar}
 use Rattle.rules.specs.Rows.{row_at, row_fits, row_earlier, reach, Sound}
 use Rattle.rules.specs.Grammar.{expr, Phrase}
-use Rattle.rules.specs.Tables.{size, rows_of, rises, first_deep_lem}
-use Rattle.rules.specs.Checks.{unknown, wrong}
+use Rattle.rules.specs.Tables.{size, rows_of, rises, deep_place}
+use Rattle.rules.specs.Checks.{unknown_place, wrong}
 use Rattle.rules.specs.Texts.{Answer, unless, near_enough, few_enough, shallow_enough, in_bounds, checked, no_grammar, derived, Answered, empty, long, no_token, parsed}
 use Rattle.rules.proofs.Growth.{rows_long}
 use Rattle.rules.proofs.Soundness.{each_at, size_some, earlier, fits, tree}
@@ -30,9 +30,9 @@ module _ (rows : List Row) where
 
   passed : (place : ℕ → ℕ) (p : Phrase expr) → Ok rows ≡ checked place p → Sound rows
   passed place p h =
-      let a = nothing (unknown p) (λ i. UnknownName (place i)) (in_bounds place p) h in
+      let a = nothing (unknown_place p) (λ i. UnknownName (place i)) (in_bounds place p) h in
       let b = nothing (wrong p) (λ i. OutOfBounds (place i)) (shallow_enough place p) a.1 in
-      let c = nothing (first_deep_lem (rises 0 0 p)) (λ i. TooDeep (place i)) (few_enough p) b.1 in
+      let c = nothing (deep_place (rises 0 0 p)) (λ i. TooDeep (place i)) (few_enough p) b.1 in
       let d = within (ltb 64 (size p)) TooManyRows (near_enough p) c.1 in
       let e = within (ltb 500000000 (reach (rows_of 0 p))) TooFar (Ok (rows_of 0 p)) d.1 in
       let size_is = rows_long 0 p in

@@ -6,8 +6,8 @@ use Rattle.rules.specs.declared.table.Table.{Table}
 use Rattle.rules.specs.declared.fault.RuleFault.TheVariants.{UnknownName, OutOfBounds, TooDeep, TooManyRows, TooFar}
 use Rattle.rules.specs.Rows.{row_at, row_fits, row_earlier, uses, reach}
 use Rattle.rules.specs.Grammar.{expr, Phrase, Derives}
-use Rattle.rules.specs.Tables.{size, rows_of, rises, first_deep_lem}
-use Rattle.rules.specs.Checks.{unknown, wrong}
+use Rattle.rules.specs.Tables.{size, rows_of, rises, deep_place}
+use Rattle.rules.specs.Checks.{unknown_place, wrong}
 use Rattle.rules.specs.Scans.{first_from, unknown_here, wrong_here}
 use Rattle.rules.specs.Texts.{Answer, unless, near_enough, few_enough, shallow_enough, in_bounds, checked, Derived}
 use Rattle.rules.proofs.Growth.{rows_long}
@@ -16,13 +16,13 @@ use Rattle.rules.proofs.Soundness.{each_at, size_some, earlier, fits, tree}
 
 module _ {ts : List Token} {t : Table} (d : Derived ts t) where
   -- what was found in the tokens was found in the derivation
-  found_unknown : (o : Option ℕ) → o ≡ first_from unknown_here 0 ts → unknown d.phrase ≡ o
+  found_unknown : (o : Option ℕ) → o ≡ first_from unknown_here 0 ts → unknown_place d.phrase ≡ o
   found_unknown o h = sym (unknown_scanned d.phrase) ∙ ap (first_from unknown_here 0) (sym d.derives.text) ∙ sym h
 
   found_wrong : (o : Option ℕ) → o ≡ first_from wrong_here 1 ts → wrong d.phrase ≡ o
   found_wrong o h = sym (wrong_scanned d.phrase) ∙ ap (first_from wrong_here 1) (sym d.derives.text) ∙ sym h
 
-  found_deep : (o : Option ℕ) → t.deep ≡ o → first_deep_lem (rises 0 0 d.phrase) ≡ o
+  found_deep : (o : Option ℕ) → t.deep ≡ o → deep_place (rises 0 0 d.phrase) ≡ o
   found_deep o h = sym d.holds.deep ∙ h
 
   count_is : t.count ≡ size d.phrase

@@ -4,17 +4,17 @@ use Rattle.std.specs.Option.{option_or}
 use Rattle.std.proofs.lemmas.List.{append-nil}
 use Rattle.rules.specs.declared.row.Row.{Row}
 use Rattle.rules.specs.declared.table.Table.{Table}
-use Rattle.rules.specs.Tables.{first_deep_lem}
+use Rattle.rules.specs.Tables.{deep_place}
 use Rattle.rules.specs.Readers.{Risen}
 
 abbrev table : List Row → ℕ → Option ℕ → Table
 table rows n deep = record { rows = rows; count = n; deep = deep }
 
 -- the first place that is too deep, with one rise more
-pub deep_more : (rs : List (ℕ × ℕ)) (at depth : ℕ) → first_deep_lem (rs ++ ((at, depth) ∷ [])) ≡ option_or (first_deep_lem rs) (cond (ltb 16 depth) (Some at) None)
+pub deep_more : (rs : List (ℕ × ℕ)) (at depth : ℕ) → deep_place (rs ++ ((at, depth) ∷ [])) ≡ option_or (deep_place rs) (cond (ltb 16 depth) (Some at) None)
 deep_more [] at depth = refl
 deep_more (r ∷ rs) at depth =
-    elim (ltb 16 r.1) as (λ (b : Bool). cond b (Some r.0) (first_deep_lem (rs ++ ((at, depth) ∷ []))) ≡ option_or (cond b (Some r.0) (first_deep_lem rs)) (cond (ltb 16 depth) (Some at) None)) [
+    elim (ltb 16 r.1) as (λ (b : Bool). cond b (Some r.0) (deep_place (rs ++ ((at, depth) ∷ []))) ≡ option_or (cond b (Some r.0) (deep_place rs)) (cond (ltb 16 depth) (Some at) None)) [
       | true ↦ refl
       | false ↦ deep_more rs at depth
     ]

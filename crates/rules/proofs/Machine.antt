@@ -6,11 +6,11 @@ use Rattle.rules.specs.declared.row.Side.{Side}
 use Rattle.rules.specs.declared.row.Side.TheVariants as side
 use Rattle.rules.specs.declared.modality.Modality.{Modality}
 use Rattle.rules.specs.declared.modality.Modality.TheVariants as modality
-use Rattle.rules.specs.Grammar.{Level, window, limit, part, meet, expr, modal_token, side_token, Phrase, span, plain, minus, test, opposite, modal, brackets, until, one_part, both, one_meet, either, tokens_of}
+use Rattle.rules.specs.Grammar.{PhraseSort, window, limit, part, meet, expr, modal_token, side_token, Phrase, span, plain, minus, test, opposite, modal, brackets, until, one_part, both, one_meet, either, phrase_tokens}
 use Rattle.rules.specs.Readers.{Isnt, NoSide, NoNumber, NoLimit, NoStart, NoEnd, Over}
 
 -- what stands before a phrase in a text that is read from the left
-pub data Ctx : Level → Type 0 where
+pub data Ctx : PhraseSort → Type 0 where
   modal_window : Ctx part → Modality → Ctx window
   until_window : Ctx part → Phrase expr → Ctx window
   test_limit : Ctx part → Option ℕ → Side → Ctx limit
@@ -68,7 +68,7 @@ second (in_brackets k) e = win0 (until_window k e)
 second (after_until k e w) f = dead
 
 -- where a phrase of each kind is wanted
-abbrev pub start : (l : Level) → Ctx l → State
+abbrev pub start : (l : PhraseSort) → Ctx l → State
 start window c = win0 c
 start limit c = lim0 c
 start part k = want k
@@ -266,7 +266,7 @@ abbrev pub finish_e : Phrase expr → Ctx expr → State
 finish_e (one_meet m) k = finish_m m (at_meet k)
 finish_e (either e m) k = finish_m m (after_or k e)
 
-abbrev pub finish : (l : Level) → Phrase l → Ctx l → State
+abbrev pub finish : (l : PhraseSort) → Phrase l → Ctx l → State
 finish window w c = opened c w
 finish limit v c = limited c v
 finish part p k = got k p
@@ -310,24 +310,24 @@ modal_next k modality.Eventually = refl
 modal_next k modality.Always = refl
 
 -- every phrase is read through
-pub complete : {l : Level} (p : Phrase l) (k : Ctx l) → run (start l k) (tokens_of p) ≡ finish l p k
+pub complete : {l : PhraseSort} (p : Phrase l) (k : Ctx l) → run (start l k) (phrase_tokens p) ≡ finish l p k
 complete (span a b) c = refl
 complete (plain n) c = refl
 complete (minus n) c = refl
-complete (test n s v) k = ap (λ (q : State). run q (tokens_of v)) (side_next k n s) ∙ complete v (test_limit k n s)
+complete (test n s v) k = ap (λ (q : State). run q (phrase_tokens v)) (side_next k n s) ∙ complete v (test_limit k n s)
 complete (opposite p) k = complete p (after_not k)
 complete (modal m w p) k =
-    ap (λ (q : State). run q (tokens_of w ++ tokens_of p)) (modal_next k m) ∙ run_append (win0 (modal_window k m)) (tokens_of w) (tokens_of p) ∙ ap (λ (q : State). run q (tokens_of p)) (complete w (modal_window k m)) ∙ complete p (after_modal k m w)
+    ap (λ (q : State). run q (phrase_tokens w ++ phrase_tokens p)) (modal_next k m) ∙ run_append (win0 (modal_window k m)) (phrase_tokens w) (phrase_tokens p) ∙ ap (λ (q : State). run q (phrase_tokens p)) (complete w (modal_window k m)) ∙ complete p (after_modal k m w)
 complete (brackets e) k =
-    run_append (start expr (in_brackets k)) (tokens_of e) (Close ∷ []) ∙ ap (λ (q : State). step q Close) (complete e (in_brackets k)) ∙ close_next e (in_brackets k)
+    run_append (start expr (in_brackets k)) (phrase_tokens e) (Close ∷ []) ∙ ap (λ (q : State). step q Close) (complete e (in_brackets k)) ∙ close_next e (in_brackets k)
 complete (until e w f) k =
-    run_append (start expr (in_brackets k)) (tokens_of e) (Until ∷ (tokens_of w ++ (tokens_of f ++ (Close ∷ [])))) ∙ ap (λ (q : State). run (step q Until) (tokens_of w ++ (tokens_of f ++ (Close ∷ [])))) (complete e (in_brackets k)) ∙ ap (λ (q : State). run q (tokens_of w ++ (tokens_of f ++ (Close ∷ [])))) (until_next e (in_brackets k)) ∙ run_append (win0 (until_window k e)) (tokens_of w) (tokens_of f ++ (Close ∷ [])) ∙ ap (λ (q : State). run q (tokens_of f ++ (Close ∷ []))) (complete w (until_window k e)) ∙ run_append (start expr (after_until k e w)) (tokens_of f) (Close ∷ []) ∙ ap (λ (q : State). step q Close) (complete f (after_until k e w)) ∙ close_next f (after_until k e w)
+    run_append (start expr (in_brackets k)) (phrase_tokens e) (Until ∷ (phrase_tokens w ++ (phrase_tokens f ++ (Close ∷ [])))) ∙ ap (λ (q : State). run (step q Until) (phrase_tokens w ++ (phrase_tokens f ++ (Close ∷ [])))) (complete e (in_brackets k)) ∙ ap (λ (q : State). run q (phrase_tokens w ++ (phrase_tokens f ++ (Close ∷ [])))) (until_next e (in_brackets k)) ∙ run_append (win0 (until_window k e)) (phrase_tokens w) (phrase_tokens f ++ (Close ∷ [])) ∙ ap (λ (q : State). run q (phrase_tokens f ++ (Close ∷ []))) (complete w (until_window k e)) ∙ run_append (start expr (after_until k e w)) (phrase_tokens f) (Close ∷ []) ∙ ap (λ (q : State). step q Close) (complete f (after_until k e w)) ∙ close_next f (after_until k e w)
 complete (one_part p) k = complete p (at_part k)
 complete (both m p) k =
-    run_append (start meet k) (tokens_of m) (And ∷ tokens_of p) ∙ ap (λ (q : State). run (step q And) (tokens_of p)) (complete m k) ∙ ap (λ (q : State). run q (tokens_of p)) (and_next m k) ∙ complete p (after_and k m)
+    run_append (start meet k) (phrase_tokens m) (And ∷ phrase_tokens p) ∙ ap (λ (q : State). run (step q And) (phrase_tokens p)) (complete m k) ∙ ap (λ (q : State). run q (phrase_tokens p)) (and_next m k) ∙ complete p (after_and k m)
 complete (one_meet m) k = complete m (at_meet k)
 complete (either e m) k =
-    run_append (start expr k) (tokens_of e) (Or ∷ tokens_of m) ∙ ap (λ (q : State). run (step q Or) (tokens_of m)) (complete e k) ∙ ap (λ (q : State). run q (tokens_of m)) (or_next e k) ∙ complete m (after_or k e)
+    run_append (start expr k) (phrase_tokens e) (Or ∷ phrase_tokens m) ∙ ap (λ (q : State). run (step q Or) (phrase_tokens m)) (complete e k) ∙ ap (λ (q : State). run q (phrase_tokens m)) (or_next e k) ∙ complete m (after_or k e)
 
 -- the expression that a state has read, where it is one
 abbrev nothing : Phrase expr
@@ -355,7 +355,7 @@ whole_e (one_meet m) k = whole_m m (at_meet k)
 whole_e (either e m) k = whole_m m (after_or k e)
 
 -- a text is one expression at most
-pub one_reading : (e f : Phrase expr) → tokens_of e ≡ tokens_of f → e ≡ f
+pub one_reading : (e f : Phrase expr) → phrase_tokens e ≡ phrase_tokens f → e ≡ f
 one_reading e f same =
     sym (whole_e e top) ∙ ap whole (sym (complete e top) ∙ ap (run (start expr top)) same ∙ complete f top) ∙ whole_e f top
 

@@ -5,11 +5,11 @@ use Rattle.tokens.specs.declared.token.Token.{Token}
 use Rattle.tokens.specs.declared.fault.TokenFault.TheVariants.{Malformed}
 use Rattle.tokens.proofs.OneWay.{one_split, one_place, never_both}
 use Rattle.rules.specs.declared.fault.RuleFault.TheVariants as fault
-use Rattle.rules.specs.Grammar.{expr, Phrase, Fails, tokens_of}
-use Rattle.rules.specs.Texts.{Answer, place_in, checked, Parsed, no_grammar, derived, empty, long, no_token, parsed, OneAnswer, OnePlace}
+use Rattle.rules.specs.Grammar.{expr, Phrase, Fails, phrase_tokens}
+use Rattle.rules.specs.Texts.{Answer, place_in, checked, Parsed, no_grammar, derived, empty, long, no_token, parsed, OneRuleAnswer, OneFaultPlace}
 
 -- what a longer beginning begins, a shorter one does too
-shorter : (ts us : List Token) (i j : ℕ) (e : Phrase expr) → i < j → tokens_of e ≡ take j ts ++ us → (vs : List Token) × (tokens_of e ≡ take (i + 1) ts ++ vs)
+shorter : (ts us : List Token) (i j : ℕ) (e : Phrase expr) → i < j → phrase_tokens e ≡ take j ts ++ us → (vs : List Token) × (phrase_tokens e ≡ take (i + 1) ts ++ vs)
 shorter ts us i j e lt h =
     let back : take j ts ≡ take (i + 1) ts ++ drop (i + 1) (take j ts) = sym (take-append-drop (i + 1) (take j ts)) ∙ ap (λ (v : List Token). v ++ drop (i + 1) (take j ts)) (take-take (i + 1) j ts (omega arith)) in
     (drop (i + 1) (take j ts) ++ us, h ∙ ap (λ (v : List Token). v ++ us) back ∙ append_assoc (take (i + 1) ts) (drop (i + 1) (take j ts)) us)
@@ -20,7 +20,7 @@ never_before ts i j f g lt =
     let s = shorter ts b.1 i j b.0 lt b.2 in
     f.ends b.0 s.0 (omega (arith, g.within)) s.1
 
-pub one_fault : OnePlace
+pub one_fault : OneFaultPlace
 one_fault ts i j f g =
     elim (ltb i j) as (λ (x : Bool). ltb i j ≡ x → i ≡ j) [
       | true ↦ λ h. absurd (never_before ts i j f g (ltb-true i j h))
@@ -37,7 +37,7 @@ one_parse ts place r s (no_grammar i f e) (derived p d h) = absurd (f.none p (sy
 one_parse ts place r s (derived p d e) (no_grammar j g h) = absurd (g.none p (sym d.text))
 one_parse ts place r s (derived p d e) (derived q c h) = e ∙ ap (checked place) (c.one p d.text) ∙ sym h
 
-pub one_answer : OneAnswer
+pub one_answer : OneRuleAnswer
 one_answer names text r s (empty z e) (empty y h) = e ∙ sym h
 one_answer names text r s (empty z e) (long y h) = absurd (omega arith)
 one_answer names text r s (empty z e) (no_token at n l k h) = absurd (omega arith)

@@ -9,8 +9,8 @@ use Rattle.rules.specs.declared.row.Side.{Side}
 use Rattle.rules.specs.declared.row.Side.TheVariants as side
 use Rattle.rules.specs.declared.modality.Modality.{Modality}
 use Rattle.rules.specs.declared.modality.Modality.TheVariants as modality
-use Rattle.rules.specs.Grammar.{Level, window, limit, part, meet, expr, modal_token, side_token, Phrase, span, plain, minus, test, opposite, modal, brackets, until, one_part, both, one_meet, either, tokens_of}
-use Rattle.rules.specs.Checks.{first_in, any_window, unknown_test, unknown, bad_window, bad_limit, wrong_window, wrong_limit, wrong_test, wrong}
+use Rattle.rules.specs.Grammar.{PhraseSort, window, limit, part, meet, expr, modal_token, side_token, Phrase, span, plain, minus, test, opposite, modal, brackets, until, one_part, both, one_meet, either, phrase_tokens}
+use Rattle.rules.specs.Checks.{first_in, any_window, unknown_test, unknown_place, bad_window, bad_limit, wrong_window, wrong_limit, wrong_test, wrong}
 use Rattle.rules.specs.Scans.{first_from, nameless, unknown_here, wrong_here}
 
 -- where a name stands that no line has
@@ -28,8 +28,8 @@ or_assoc (Some k) b c = refl
 
 -- a scan that finds something only in windows and tests, s places behind where it looks
 pub record Scanner (holds : List Token → Bool) (s : ℕ) (w : ℕ → Phrase window → Option ℕ) (t : ℕ → Option ℕ → Phrase limit → Option ℕ) : Type 0 where
-  pub windows : (k : ℕ) (u : Phrase window) (rest : List Token) → first_from holds (k + s) (tokens_of u ++ rest) ≡ option_or (w k u) (first_from holds ((k + length (tokens_of u)) + s) rest)
-  pub tests : (k : ℕ) (o : Option ℕ) (c : Side) (v : Phrase limit) (rest : List Token) → first_from holds (k + s) (Name o ∷ (side_token c ∷ (tokens_of v ++ rest))) ≡ option_or (t k o v) (first_from holds ((k + length (tokens_of (test o c v))) + s) rest)
+  pub windows : (k : ℕ) (u : Phrase window) (rest : List Token) → first_from holds (k + s) (phrase_tokens u ++ rest) ≡ option_or (w k u) (first_from holds ((k + length (phrase_tokens u)) + s) rest)
+  pub tests : (k : ℕ) (o : Option ℕ) (c : Side) (v : Phrase limit) (rest : List Token) → first_from holds (k + s) (Name o ∷ (side_token c ∷ (phrase_tokens v ++ rest))) ≡ option_or (t k o v) (first_from holds ((k + length (phrase_tokens (test o c v))) + s) rest)
   pub not_skips : (r : List Token) → holds (Not ∷ r) ≡ false
   pub modal_skips : (m : Modality) (r : List Token) → holds (modal_token m ∷ r) ≡ false
   pub open_skips : (r : List Token) → holds (Open ∷ r) ≡ false
@@ -64,52 +64,52 @@ module _ {holds : List Token → Bool} {s : ℕ} {w : ℕ → Phrase window → 
   single x k h r = skip k ((k + 1) + s) x r (h r) (omega arith)
 
   -- limits stand in tests alone
-  abbrev Walks : (l : Level) → ℕ → Phrase l → Type 0
-  Walks window k p = (r : List Token) → first_from holds (k + s) (tokens_of p ++ r) ≡ option_or (w k p) (first_from holds ((k + length (tokens_of p)) + s) r)
+  abbrev Walks : (l : PhraseSort) → ℕ → Phrase l → Type 0
+  Walks window k p = (r : List Token) → first_from holds (k + s) (phrase_tokens p ++ r) ≡ option_or (w k p) (first_from holds ((k + length (phrase_tokens p)) + s) r)
   Walks limit k p = Unit {0}
-  Walks part k p = (r : List Token) → first_from holds (k + s) (tokens_of p ++ r) ≡ option_or (first_in w t k p) (first_from holds ((k + length (tokens_of p)) + s) r)
-  Walks meet k p = (r : List Token) → first_from holds (k + s) (tokens_of p ++ r) ≡ option_or (first_in w t k p) (first_from holds ((k + length (tokens_of p)) + s) r)
-  Walks expr k p = (r : List Token) → first_from holds (k + s) (tokens_of p ++ r) ≡ option_or (first_in w t k p) (first_from holds ((k + length (tokens_of p)) + s) r)
+  Walks part k p = (r : List Token) → first_from holds (k + s) (phrase_tokens p ++ r) ≡ option_or (first_in w t k p) (first_from holds ((k + length (phrase_tokens p)) + s) r)
+  Walks meet k p = (r : List Token) → first_from holds (k + s) (phrase_tokens p ++ r) ≡ option_or (first_in w t k p) (first_from holds ((k + length (phrase_tokens p)) + s) r)
+  Walks expr k p = (r : List Token) → first_from holds (k + s) (phrase_tokens p ++ r) ≡ option_or (first_in w t k p) (first_from holds ((k + length (phrase_tokens p)) + s) r)
 
-  pub walks : {l : Level} (k : ℕ) (p : Phrase l) → Walks l k p
+  pub walks : {l : PhraseSort} (k : ℕ) (p : Phrase l) → Walks l k p
   walks k (span a b) = S.windows k (span a b)
   walks k (plain n) = tt
   walks k (minus n) = tt
   walks k (test o c v) = λ r. S.tests k o c v r
-  walks k (opposite p) = λ r. ahead (first_in w t (k + 1) p) (tokens_of p) r Not k (S.not_skips (tokens_of p ++ r)) (walks (k + 1) p)
+  walks k (opposite p) = λ r. ahead (first_in w t (k + 1) p) (phrase_tokens p) r Not k (S.not_skips (phrase_tokens p ++ r)) (walks (k + 1) p)
   walks k (modal m u p) =
-      λ r. ahead (option_or (w (k + 1) u) (first_in w t ((k + 1) + length (tokens_of u)) p)) (tokens_of u ++ tokens_of p) r (modal_token m) k (S.modal_skips m ((tokens_of u ++ tokens_of p) ++ r)) (λ q. behind (w (k + 1) u) (first_in w t ((k + 1) + length (tokens_of u)) p) (tokens_of u) (tokens_of p) q (k + 1) (S.windows (k + 1) u) (walks ((k + 1) + length (tokens_of u)) p))
+      λ r. ahead (option_or (w (k + 1) u) (first_in w t ((k + 1) + length (phrase_tokens u)) p)) (phrase_tokens u ++ phrase_tokens p) r (modal_token m) k (S.modal_skips m ((phrase_tokens u ++ phrase_tokens p) ++ r)) (λ q. behind (w (k + 1) u) (first_in w t ((k + 1) + length (phrase_tokens u)) p) (phrase_tokens u) (phrase_tokens p) q (k + 1) (S.windows (k + 1) u) (walks ((k + 1) + length (phrase_tokens u)) p))
   walks k (brackets e) =
-      λ r. ahead (first_in w t (k + 1) e) (tokens_of e ++ (Close ∷ [])) r Open k (S.open_skips ((tokens_of e ++ (Close ∷ [])) ++ r)) (λ q. behind (first_in w t (k + 1) e) None (tokens_of e) (Close ∷ []) q (k + 1) (walks (k + 1) e) (single Close ((k + 1) + length (tokens_of e)) S.close_skips) ∙ ap (λ (o : Option ℕ). option_or o (first_from holds (((k + 1) + length (tokens_of e ++ (Close ∷ []))) + s) q)) (or_none (first_in w t (k + 1) e)))
+      λ r. ahead (first_in w t (k + 1) e) (phrase_tokens e ++ (Close ∷ [])) r Open k (S.open_skips ((phrase_tokens e ++ (Close ∷ [])) ++ r)) (λ q. behind (first_in w t (k + 1) e) None (phrase_tokens e) (Close ∷ []) q (k + 1) (walks (k + 1) e) (single Close ((k + 1) + length (phrase_tokens e)) S.close_skips) ∙ ap (λ (o : Option ℕ). option_or o (first_from holds (((k + 1) + length (phrase_tokens e ++ (Close ∷ []))) + s) q)) (or_none (first_in w t (k + 1) e)))
   walks k (until e u f) =
       let ee : Option ℕ = first_in w t (k + 1) e in
-      let j : ℕ = (k + 1) + length (tokens_of e) in
+      let j : ℕ = (k + 1) + length (phrase_tokens e) in
       let uu : Option ℕ = w (j + 1) u in
-      let i : ℕ = (j + 1) + length (tokens_of u) in
+      let i : ℕ = (j + 1) + length (phrase_tokens u) in
       let ff : Option ℕ = first_in w t i f in
-      let tail : List Token = tokens_of f ++ (Close ∷ []) in
-      let last : (q : List Token) → first_from holds (i + s) (tail ++ q) ≡ option_or ff (first_from holds ((i + length tail) + s) q) = λ q. behind ff None (tokens_of f) (Close ∷ []) q i (walks i f) (single Close (i + length (tokens_of f)) S.close_skips) ∙ ap (λ (o : Option ℕ). option_or o (first_from holds ((i + length tail) + s) q)) (or_none ff) in
-      let inner : (q : List Token) → first_from holds ((j + 1) + s) ((tokens_of u ++ tail) ++ q) ≡ option_or (option_or uu ff) (first_from holds (((j + 1) + length (tokens_of u ++ tail)) + s) q) = λ q. behind uu ff (tokens_of u) tail q (j + 1) (S.windows (j + 1) u) last in
-      λ r. ahead (option_or ee (option_or uu ff)) (tokens_of e ++ (Until ∷ (tokens_of u ++ tail))) r Open k (S.open_skips ((tokens_of e ++ (Until ∷ (tokens_of u ++ tail))) ++ r)) (λ q. behind ee (option_or uu ff) (tokens_of e) (Until ∷ (tokens_of u ++ tail)) q (k + 1) (walks (k + 1) e) (λ z. ahead (option_or uu ff) (tokens_of u ++ tail) z Until j (S.until_skips ((tokens_of u ++ tail) ++ z)) inner))
+      let tail : List Token = phrase_tokens f ++ (Close ∷ []) in
+      let last : (q : List Token) → first_from holds (i + s) (tail ++ q) ≡ option_or ff (first_from holds ((i + length tail) + s) q) = λ q. behind ff None (phrase_tokens f) (Close ∷ []) q i (walks i f) (single Close (i + length (phrase_tokens f)) S.close_skips) ∙ ap (λ (o : Option ℕ). option_or o (first_from holds ((i + length tail) + s) q)) (or_none ff) in
+      let inner : (q : List Token) → first_from holds ((j + 1) + s) ((phrase_tokens u ++ tail) ++ q) ≡ option_or (option_or uu ff) (first_from holds (((j + 1) + length (phrase_tokens u ++ tail)) + s) q) = λ q. behind uu ff (phrase_tokens u) tail q (j + 1) (S.windows (j + 1) u) last in
+      λ r. ahead (option_or ee (option_or uu ff)) (phrase_tokens e ++ (Until ∷ (phrase_tokens u ++ tail))) r Open k (S.open_skips ((phrase_tokens e ++ (Until ∷ (phrase_tokens u ++ tail))) ++ r)) (λ q. behind ee (option_or uu ff) (phrase_tokens e) (Until ∷ (phrase_tokens u ++ tail)) q (k + 1) (walks (k + 1) e) (λ z. ahead (option_or uu ff) (phrase_tokens u ++ tail) z Until j (S.until_skips ((phrase_tokens u ++ tail) ++ z)) inner))
   walks k (one_part p) = walks k p
   walks k (both m p) =
       let mm : Option ℕ = first_in w t k m in
-      let j : ℕ = k + length (tokens_of m) in
-      λ r. behind mm (first_in w t (j + 1) p) (tokens_of m) (And ∷ tokens_of p) r k (walks k m) (λ z. ahead (first_in w t (j + 1) p) (tokens_of p) z And j (S.and_skips (tokens_of p ++ z)) (walks (j + 1) p))
+      let j : ℕ = k + length (phrase_tokens m) in
+      λ r. behind mm (first_in w t (j + 1) p) (phrase_tokens m) (And ∷ phrase_tokens p) r k (walks k m) (λ z. ahead (first_in w t (j + 1) p) (phrase_tokens p) z And j (S.and_skips (phrase_tokens p ++ z)) (walks (j + 1) p))
   walks k (one_meet m) = walks k m
   walks k (either e m) =
       let ee : Option ℕ = first_in w t k e in
-      let j : ℕ = k + length (tokens_of e) in
-      λ r. behind ee (first_in w t (j + 1) m) (tokens_of e) (Or ∷ tokens_of m) r k (walks k e) (λ z. ahead (first_in w t (j + 1) m) (tokens_of m) z Or j (S.or_skips (tokens_of m ++ z)) (walks (j + 1) m))
+      let j : ℕ = k + length (phrase_tokens e) in
+      λ r. behind ee (first_in w t (j + 1) m) (phrase_tokens e) (Or ∷ phrase_tokens m) r k (walks k e) (λ z. ahead (first_in w t (j + 1) m) (phrase_tokens m) z Or j (S.or_skips (phrase_tokens m ++ z)) (walks (j + 1) m))
 
   -- over a whole expression
-  pub scanned : (p : Phrase expr) → first_from holds (0 + s) (tokens_of p) ≡ first_in w t 0 p
-  scanned p = ap (first_from holds (0 + s)) (sym (append-nil (tokens_of p))) ∙ walks 0 p [] ∙ or_none (first_in w t 0 p)
+  pub scanned : (p : Phrase expr) → first_from holds (0 + s) (phrase_tokens p) ≡ first_in w t 0 p
+  scanned p = ap (first_from holds (0 + s)) (sym (append-nil (phrase_tokens p))) ∙ walks 0 p [] ∙ or_none (first_in w t 0 p)
 
-name_window : (k : ℕ) (u : Phrase window) (rest : List Token) → first_from unknown_here (k + 0) (tokens_of u ++ rest) ≡ option_or (any_window k u) (first_from unknown_here ((k + length (tokens_of u)) + 0) rest)
+name_window : (k : ℕ) (u : Phrase window) (rest : List Token) → first_from unknown_here (k + 0) (phrase_tokens u ++ rest) ≡ option_or (any_window k u) (first_from unknown_here ((k + length (phrase_tokens u)) + 0) rest)
 name_window k (span a b) rest = ap (λ (n : ℕ). first_from unknown_here n rest) (omega arith)
 
-name_limit : (k : ℕ) (v : Phrase limit) (rest : List Token) → first_from unknown_here k (tokens_of v ++ rest) ≡ first_from unknown_here (k + length (tokens_of v)) rest
+name_limit : (k : ℕ) (v : Phrase limit) (rest : List Token) → first_from unknown_here k (phrase_tokens v ++ rest) ≡ first_from unknown_here (k + length (phrase_tokens v)) rest
 name_limit k (plain n) rest = refl
 name_limit k (minus n) rest = ap (λ (n : ℕ). first_from unknown_here n rest) (omega arith)
 
@@ -117,15 +117,15 @@ name_side : (k : ℕ) (c : Side) (rest : List Token) → first_from unknown_here
 name_side k side.AtLeast rest = refl
 name_side k side.AtMost rest = refl
 
-name_test : (k : ℕ) (o : Option ℕ) (c : Side) (v : Phrase limit) (rest : List Token) → first_from unknown_here (k + 0) (Name o ∷ (side_token c ∷ (tokens_of v ++ rest))) ≡ option_or (unknown_test k o v) (first_from unknown_here ((k + length (tokens_of (test o c v))) + 0) rest)
+name_test : (k : ℕ) (o : Option ℕ) (c : Side) (v : Phrase limit) (rest : List Token) → first_from unknown_here (k + 0) (Name o ∷ (side_token c ∷ (phrase_tokens v ++ rest))) ≡ option_or (unknown_test k o v) (first_from unknown_here ((k + length (phrase_tokens (test o c v))) + 0) rest)
 name_test k None c v rest = ap (λ (n : ℕ). Some n) (omega arith)
-name_test k (Some line) c v rest = name_side ((k + 0) + 1) c (tokens_of v ++ rest) ∙ name_limit (((k + 0) + 1) + 1) v rest ∙ ap (λ (n : ℕ). first_from unknown_here n rest) (omega arith)
+name_test k (Some line) c v rest = name_side ((k + 0) + 1) c (phrase_tokens v ++ rest) ∙ name_limit (((k + 0) + 1) + 1) v rest ∙ ap (λ (n : ℕ). first_from unknown_here n rest) (omega arith)
 
 name_modal : (m : Modality) (r : List Token) → unknown_here (modal_token m ∷ r) ≡ false
 name_modal modality.Eventually r = refl
 name_modal modality.Always r = refl
 
-number_window : (k : ℕ) (u : Phrase window) (rest : List Token) → first_from wrong_here (k + 1) (tokens_of u ++ rest) ≡ option_or (wrong_window k u) (first_from wrong_here ((k + length (tokens_of u)) + 1) rest)
+number_window : (k : ℕ) (u : Phrase window) (rest : List Token) → first_from wrong_here (k + 1) (phrase_tokens u ++ rest) ≡ option_or (wrong_window k u) (first_from wrong_here ((k + length (phrase_tokens u)) + 1) rest)
 number_window k (span a b) rest =
     elim (bad_window a b) as (λ (x : Bool). cond x (Some (k + 1)) (first_from wrong_here ((((((k + 1) + 1) + 1) + 1) + 1) + 1) rest) ≡ option_or (cond x (Some (k + 1)) None) (first_from wrong_here ((k + 5) + 1) rest)) [
       | true ↦ refl
@@ -136,15 +136,15 @@ number_far : (k m : ℕ) (x : Bool) (rest : List Token) (i j : ℕ) → i ≡ j 
 number_far k m true rest i j e f = ap (λ (n : ℕ). Some n) e
 number_far k m false rest i j e f = ap (λ (n : ℕ). first_from wrong_here n rest) f
 
-number_limit : (k : ℕ) (c : Side) (v : Phrase limit) (rest : List Token) → first_from wrong_here (k + 2) (side_token c ∷ (tokens_of v ++ rest)) ≡ option_or (wrong_limit (k + 2) v) (first_from wrong_here ((k + (2 + length (tokens_of v))) + 1) rest)
+number_limit : (k : ℕ) (c : Side) (v : Phrase limit) (rest : List Token) → first_from wrong_here (k + 2) (side_token c ∷ (phrase_tokens v ++ rest)) ≡ option_or (wrong_limit (k + 2) v) (first_from wrong_here ((k + (2 + length (phrase_tokens v))) + 1) rest)
 number_limit k side.AtLeast (plain n) rest = number_far _ _ (bad_limit n) rest _ _ (omega arith) (omega arith)
 number_limit k side.AtMost (plain n) rest = number_far _ _ (bad_limit n) rest _ _ (omega arith) (omega arith)
 number_limit k side.AtLeast (minus n) rest = number_far _ _ (bad_limit n) rest _ _ (omega arith) (omega arith)
 number_limit k side.AtMost (minus n) rest = number_far _ _ (bad_limit n) rest _ _ (omega arith) (omega arith)
 
-number_test : (k : ℕ) (o : Option ℕ) (c : Side) (v : Phrase limit) (rest : List Token) → first_from wrong_here (k + 1) (Name o ∷ (side_token c ∷ (tokens_of v ++ rest))) ≡ option_or (wrong_test k o v) (first_from wrong_here ((k + length (tokens_of (test o c v))) + 1) rest)
+number_test : (k : ℕ) (o : Option ℕ) (c : Side) (v : Phrase limit) (rest : List Token) → first_from wrong_here (k + 1) (Name o ∷ (side_token c ∷ (phrase_tokens v ++ rest))) ≡ option_or (wrong_test k o v) (first_from wrong_here ((k + length (phrase_tokens (test o c v))) + 1) rest)
 number_test k o c v rest =
-    ap (λ (n : ℕ). first_from wrong_here n (side_token c ∷ (tokens_of v ++ rest))) (omega arith) ∙ number_limit k c v rest ∙ ap (option_or (wrong_limit (k + 2) v)) (ap (λ (n : ℕ). first_from wrong_here ((k + n) + 1) rest) (omega arith))
+    ap (λ (n : ℕ). first_from wrong_here n (side_token c ∷ (phrase_tokens v ++ rest))) (omega arith) ∙ number_limit k c v rest ∙ ap (option_or (wrong_limit (k + 2) v)) (ap (λ (n : ℕ). first_from wrong_here ((k + n) + 1) rest) (omega arith))
 
 number_modal : (m : Modality) (r : List Token) → wrong_here (modal_token m ∷ r) ≡ false
 number_modal modality.Eventually r = refl
@@ -176,8 +176,8 @@ numbers = record {
   or_skips = λ r. refl;
 }
 
-pub unknown_scanned : (p : Phrase expr) → first_from unknown_here 0 (tokens_of p) ≡ unknown p
+pub unknown_scanned : (p : Phrase expr) → first_from unknown_here 0 (phrase_tokens p) ≡ unknown_place p
 unknown_scanned p = scanned names p
 
-pub wrong_scanned : (p : Phrase expr) → first_from wrong_here 1 (tokens_of p) ≡ wrong p
+pub wrong_scanned : (p : Phrase expr) → first_from wrong_here 1 (phrase_tokens p) ≡ wrong p
 wrong_scanned p = scanned numbers p

@@ -8,7 +8,7 @@ use Rattle.rules.specs.declared.row.Row.TheVariants.{Test}
 use Rattle.rules.specs.Rows.{row_at, row_fits, row_earlier, one_if, kids, uses}
 use Rattle.rules.specs.declared.modality.Modality.{Modality}
 use Rattle.rules.specs.declared.modality.Modality.TheVariants as modality
-use Rattle.rules.specs.Grammar.{Level, window, limit, part, meet, expr, Phrase, span, plain, minus, test, opposite, modal, brackets, until, one_part, both, one_meet, either, tokens_of}
+use Rattle.rules.specs.Grammar.{PhraseSort, window, limit, part, meet, expr, Phrase, span, plain, minus, test, opposite, modal, brackets, until, one_part, both, one_meet, either, phrase_tokens}
 use Rattle.rules.specs.Tables.{size, limit_of, line_of, modal_row, until_row, rows_of}
 use Rattle.rules.specs.Checks.{first_in, bad_window, bad_limit, wrong_window, wrong_limit, wrong_test}
 use Rattle.rules.proofs.Growth.{rows_long}
@@ -28,14 +28,14 @@ each_at P b (r ∷ rows) h zero lt = subst (λ (n : ℕ). P r n) (omega arith) h
 each_at P b (r ∷ rows) h (suc k) lt = subst (λ (n : ℕ). P (row_at rows k) n) (omega arith) (each_at P (b + 1) rows h.1 k (omega arith))
 
 -- kinds of phrase that have rows
-abbrev pub Rowed : Level → Type 0
+abbrev pub Rowed : PhraseSort → Type 0
 Rowed window = ⊥
 Rowed limit = ⊥
 Rowed part = Unit {0}
 Rowed meet = Unit {0}
 Rowed expr = Unit {0}
 
-pub size_some : {l : Level} (p : Phrase l) → Rowed l → 0 < size p
+pub size_some : {l : PhraseSort} (p : Phrase l) → Rowed l → 0 < size p
 size_some (span a b) h = absurd h
 size_some (plain n) h = absurd h
 size_some (minus n) h = absurd h
@@ -63,13 +63,13 @@ until_earlier : (w : Phrase window) (l r k : ℕ) → l < k → r < k → Earlie
 until_earlier (span a b) l r k h g = both_true (ltb l k) (ltb r k) (lt-ltb l k h) (lt-ltb r k g)
 
 -- a phrase and a row above it
-one_above : (P : Row → ℕ → Type 0) {l : Level} (b : ℕ) (p : Phrase l) (r : Row) → Each P b (rows_of b p) → P r (b + size p) → Each P b (rows_of b p ++ (r ∷ []))
+one_above : (P : Row → ℕ → Type 0) {l : PhraseSort} (b : ℕ) (p : Phrase l) (r : Row) → Each P b (rows_of b p) → P r (b + size p) → Each P b (rows_of b p ++ (r ∷ []))
 one_above P b p r h g = each_append P b (b + size p) (rows_of b p) (r ∷ []) (ap (λ (n : ℕ). b + n) (sym (rows_long b p))) h (g, tt)
 
-two_above : (P : Row → ℕ → Type 0) {l k : Level} (b : ℕ) (p : Phrase l) (q : Phrase k) (r : Row) → Each P b (rows_of b p) → Each P (b + size p) (rows_of (b + size p) q) → P r ((b + size p) + size q) → Each P b (rows_of b p ++ (rows_of (b + size p) q ++ (r ∷ [])))
+two_above : (P : Row → ℕ → Type 0) {l k : PhraseSort} (b : ℕ) (p : Phrase l) (q : Phrase k) (r : Row) → Each P b (rows_of b p) → Each P (b + size p) (rows_of (b + size p) q) → P r ((b + size p) + size q) → Each P b (rows_of b p ++ (rows_of (b + size p) q ++ (r ∷ [])))
 two_above P b p q r h g f = each_append P b (b + size p) (rows_of b p) _ (ap (λ (n : ℕ). b + n) (sym (rows_long b p))) h (one_above P (b + size p) q r g f)
 
-pub earlier : {l : Level} (b : ℕ) (p : Phrase l) → Each Earlier b (rows_of b p)
+pub earlier : {l : PhraseSort} (b : ℕ) (p : Phrase l) → Each Earlier b (rows_of b p)
 earlier b (span a c) = tt
 earlier b (plain n) = tt
 earlier b (minus n) = tt
@@ -117,7 +117,7 @@ limit_fits : (k : ℕ) (o : ℕ) (s : _) (v : Phrase limit) → wrong_limit k v 
 limit_fits k o s (plain n) h = let lt : n ≤ 500000 = ltb-false 500000 n (not_found (bad_limit n) k h) in grind (arith, ints)
 limit_fits k o s (minus n) h = let lt : n ≤ 500000 = ltb-false 500000 n (not_found (bad_limit n) (k + 1) h) in grind (arith, ints)
 
-pub fits : {l : Level} (k b : ℕ) (p : Phrase l) → first_in wrong_window wrong_test k p ≡ None → Each Fits b (rows_of b p)
+pub fits : {l : PhraseSort} (k b : ℕ) (p : Phrase l) → first_in wrong_window wrong_test k p ≡ None → Each Fits b (rows_of b p)
 fits k b (span a c) h = tt
 fits k b (plain n) h = tt
 fits k b (minus n) h = tt
@@ -126,8 +126,8 @@ fits k b (opposite p) h = one_above Fits b p _ (fits (k + 1) b p h) refl
 fits k b (modal m w p) h = one_above Fits b p _ (fits _ b p (none_right _ _ h)) (modal_fits _ m w _ (none_left _ _ h))
 fits k b (brackets e) h = fits (k + 1) b e h
 fits k b (until e w f) h =
-    let j : ℕ = ((k + 1) + length (tokens_of e)) + 1 in
-    let i : ℕ = j + length (tokens_of w) in
+    let j : ℕ = ((k + 1) + length (phrase_tokens e)) + 1 in
+    let i : ℕ = j + length (phrase_tokens w) in
     let ee : Option ℕ = first_in wrong_window wrong_test (k + 1) e in
     let ff : Option ℕ = first_in wrong_window wrong_test i f in
     let g : option_or (wrong_window j w) ff ≡ None = none_right ee (option_or (wrong_window j w) ff) h in
@@ -212,7 +212,7 @@ modal_kids modality.Always (span a b) d c = refl
 until_kids : (w : Phrase window) (l r c : ℕ) → kids (until_row w l r) c ≡ one_if (eqb c l) + one_if (eqb c r)
 until_kids (span a b) l r c = refl
 
-pub tree : {l : Level} (b : ℕ) (p : Phrase l) → Rowed l → Tree (rows_of b p) b (size p)
+pub tree : {l : PhraseSort} (b : ℕ) (p : Phrase l) → Rowed l → Tree (rows_of b p) b (size p)
 tree b (span a c) h = absurd h
 tree b (plain n) h = absurd h
 tree b (minus n) h = absurd h

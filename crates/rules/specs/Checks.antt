@@ -1,22 +1,22 @@
 -- What a derivation must keep besides the grammar, and the first place at which it does not.
 use Rattle.std.specs.Prelude.{ℕ, ◌+◌, Bool, cond, ◌||◌, length, Some, None, Option, nat_lt}
 use Rattle.std.specs.Option.{option_or}
-use Rattle.rules.specs.Grammar.{Level, window, limit, expr, Phrase, span, plain, minus, test, opposite, modal, brackets, until, one_part, both, one_meet, either, tokens_of}
+use Rattle.rules.specs.Grammar.{PhraseSort, window, limit, expr, Phrase, span, plain, minus, test, opposite, modal, brackets, until, one_part, both, one_meet, either, phrase_tokens}
 
 -- the first place, from the left, that a window or a test reports, where the phrase begins at place k
-abbrev pub first_in : (ℕ → Phrase window → Option ℕ) → (ℕ → Option ℕ → Phrase limit → Option ℕ) → {l : Level} → ℕ → Phrase l → Option ℕ
+abbrev pub first_in : (ℕ → Phrase window → Option ℕ) → (ℕ → Option ℕ → Phrase limit → Option ℕ) → {l : PhraseSort} → ℕ → Phrase l → Option ℕ
 first_in w t k (span a b) = w k (span a b)
 first_in w t k (plain n) = None
 first_in w t k (minus n) = None
 first_in w t k (test o s v) = t k o v
 first_in w t k (opposite p) = first_in w t (k + 1) p
-first_in w t k (modal m u p) = option_or (w (k + 1) u) (first_in w t ((k + 1) + length (tokens_of u)) p)
+first_in w t k (modal m u p) = option_or (w (k + 1) u) (first_in w t ((k + 1) + length (phrase_tokens u)) p)
 first_in w t k (brackets e) = first_in w t (k + 1) e
-first_in w t k (until e u f) = option_or (first_in w t (k + 1) e) (option_or (w (((k + 1) + length (tokens_of e)) + 1) u) (first_in w t ((((k + 1) + length (tokens_of e)) + 1) + length (tokens_of u)) f))
+first_in w t k (until e u f) = option_or (first_in w t (k + 1) e) (option_or (w (((k + 1) + length (phrase_tokens e)) + 1) u) (first_in w t ((((k + 1) + length (phrase_tokens e)) + 1) + length (phrase_tokens u)) f))
 first_in w t k (one_part p) = first_in w t k p
-first_in w t k (both m p) = option_or (first_in w t k m) (first_in w t ((k + length (tokens_of m)) + 1) p)
+first_in w t k (both m p) = option_or (first_in w t k m) (first_in w t ((k + length (phrase_tokens m)) + 1) p)
 first_in w t k (one_meet m) = first_in w t k m
-first_in w t k (either e m) = option_or (first_in w t k e) (first_in w t ((k + length (tokens_of e)) + 1) m)
+first_in w t k (either e m) = option_or (first_in w t k e) (first_in w t ((k + length (phrase_tokens e)) + 1) m)
 
 -- names: a test whose name is not a line's, at the name
 abbrev pub any_window : ℕ → Phrase window → Option ℕ
@@ -26,8 +26,8 @@ abbrev pub unknown_test : ℕ → Option ℕ → Phrase limit → Option ℕ
 unknown_test k None v = Some k
 unknown_test k (Some line) v = None
 
-abbrev pub unknown : Phrase expr → Option ℕ
-unknown p = first_in any_window unknown_test 0 p
+abbrev pub unknown_place : Phrase expr → Option ℕ
+unknown_place p = first_in any_window unknown_test 0 p
 
 -- numbers: a window that runs backward or too far, and a limit too far from 0, at its first number
 abbrev pub bad_window : ℕ → ℕ → Bool

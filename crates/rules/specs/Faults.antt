@@ -4,16 +4,16 @@ use Rattle.tokens.specs.declared.fault.TokenFault.TheVariants.{TooLong, Malforme
 use Rattle.rules.specs.declared.fault.RuleFault.{RuleFault}
 use Rattle.rules.specs.declared.fault.RuleFault.TheVariants.{Empty, Token, Grammar, UnknownName, OutOfBounds, TooDeep, TooManyRows, TooFar}
 
-abbrev pub fault_number : RuleFault → ℕ
-fault_number Empty = 12
-fault_number (Token TooLong) = 12
-fault_number (Token (Malformed at)) = 13
-fault_number (Grammar at) = 14
-fault_number (UnknownName at) = 15
-fault_number (OutOfBounds at) = 16
-fault_number (TooDeep at) = 17
-fault_number TooManyRows = 18
-fault_number TooFar = 19
+abbrev pub rule_fault_number : RuleFault → ℕ
+rule_fault_number Empty = 12
+rule_fault_number (Token TooLong) = 12
+rule_fault_number (Token (Malformed at)) = 13
+rule_fault_number (Grammar at) = 14
+rule_fault_number (UnknownName at) = 15
+rule_fault_number (OutOfBounds at) = 16
+rule_fault_number (TooDeep at) = 17
+rule_fault_number TooManyRows = 18
+rule_fault_number TooFar = 19
 
 abbrev pub fault_place : RuleFault → ℕ
 fault_place Empty = 0

@@ -8,12 +8,12 @@ use Rattle.rules.specs.declared.row.Side.{Side}
 use Rattle.rules.specs.declared.row.Side.TheVariants as side
 
 -- the kinds of phrase
-pub data Level : Type 0 where
-  window : Level
-  limit : Level
-  part : Level
-  meet : Level
-  expr : Level
+pub data PhraseSort : Type 0 where
+  window : PhraseSort
+  limit : PhraseSort
+  part : PhraseSort
+  meet : PhraseSort
+  expr : PhraseSort
 
 abbrev pub modal_token : Modality → Token
 modal_token modality.Eventually = Eventually
@@ -24,7 +24,7 @@ side_token side.AtLeast = AtLeast
 side_token side.AtMost = AtMost
 
 -- the grammar, one constructor for each way to write a phrase; meets and expressions group from the left
-pub data Phrase : Level → Type 0 where
+pub data Phrase : PhraseSort → Type 0 where
   span : ℕ → ℕ → Phrase window
   plain : ℕ → Phrase limit
   minus : ℕ → Phrase limit
@@ -39,32 +39,32 @@ pub data Phrase : Level → Type 0 where
   either : Phrase expr → Phrase meet → Phrase expr
 
 -- the tokens of a phrase
-abbrev pub tokens_of : {l : Level} → Phrase l → List Token
-tokens_of (span a b) = Left ∷ (Number a ∷ (Comma ∷ (Number b ∷ (Right ∷ []))))
-tokens_of (plain n) = Number n ∷ []
-tokens_of (minus n) = Minus ∷ (Number n ∷ [])
-tokens_of (test o s v) = Name o ∷ (side_token s ∷ tokens_of v)
-tokens_of (opposite p) = Not ∷ tokens_of p
-tokens_of (modal m w p) = modal_token m ∷ (tokens_of w ++ tokens_of p)
-tokens_of (brackets e) = Open ∷ (tokens_of e ++ (Close ∷ []))
-tokens_of (until e w f) = Open ∷ (tokens_of e ++ (Until ∷ (tokens_of w ++ (tokens_of f ++ (Close ∷ [])))))
-tokens_of (one_part p) = tokens_of p
-tokens_of (both m p) = tokens_of m ++ (And ∷ tokens_of p)
-tokens_of (one_meet m) = tokens_of m
-tokens_of (either e m) = tokens_of e ++ (Or ∷ tokens_of m)
+abbrev pub phrase_tokens : {l : PhraseSort} → Phrase l → List Token
+phrase_tokens (span a b) = Left ∷ (Number a ∷ (Comma ∷ (Number b ∷ (Right ∷ []))))
+phrase_tokens (plain n) = Number n ∷ []
+phrase_tokens (minus n) = Minus ∷ (Number n ∷ [])
+phrase_tokens (test o s v) = Name o ∷ (side_token s ∷ phrase_tokens v)
+phrase_tokens (opposite p) = Not ∷ phrase_tokens p
+phrase_tokens (modal m w p) = modal_token m ∷ (phrase_tokens w ++ phrase_tokens p)
+phrase_tokens (brackets e) = Open ∷ (phrase_tokens e ++ (Close ∷ []))
+phrase_tokens (until e w f) = Open ∷ (phrase_tokens e ++ (Until ∷ (phrase_tokens w ++ (phrase_tokens f ++ (Close ∷ [])))))
+phrase_tokens (one_part p) = phrase_tokens p
+phrase_tokens (both m p) = phrase_tokens m ++ (And ∷ phrase_tokens p)
+phrase_tokens (one_meet m) = phrase_tokens m
+phrase_tokens (either e m) = phrase_tokens e ++ (Or ∷ phrase_tokens m)
 
 -- ts is the derivation p's list of tokens, and that of no other
 pub record Derives (ts : List Token) (p : Phrase expr) : Type 0 where
-  pub text : ts ≡ tokens_of p
-  pub one : (other : Phrase expr) → ts ≡ tokens_of other → other ≡ p
+  pub text : ts ≡ phrase_tokens p
+  pub one : (other : Phrase expr) → ts ≡ phrase_tokens other → other ≡ p
 
 -- the first i tokens begin some expression; with the token at i, none does; and where there is no token at i, ts is none
 pub record Fails (ts : List Token) (i : ℕ) : Type 0 where
   pub within : i ≤ length ts
-  pub begins : (e : Phrase expr) × (us : List Token) × (tokens_of e ≡ take i ts ++ us)
-  pub ends : (e : Phrase expr) (us : List Token) → i < length ts → tokens_of e ≢ take (i + 1) ts ++ us
-  pub none : (e : Phrase expr) → tokens_of e ≢ ts
+  pub begins : (e : Phrase expr) × (us : List Token) × (phrase_tokens e ≡ take i ts ++ us)
+  pub ends : (e : Phrase expr) (us : List Token) → i < length ts → phrase_tokens e ≢ take (i + 1) ts ++ us
+  pub none : (e : Phrase expr) → phrase_tokens e ≢ ts
 
 -- two derivations with the same tokens are one
 abbrev pub OneReading : Type 0
-OneReading = (e f : Phrase expr) → tokens_of e ≡ tokens_of f → e ≡ f
+OneReading = (e f : Phrase expr) → phrase_tokens e ≡ phrase_tokens f → e ≡ f

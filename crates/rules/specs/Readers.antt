@@ -5,8 +5,8 @@ use Rattle.tokens.specs.declared.token.Token.TheVariants.{Or, And, Not, Open, Cl
 use Rattle.rules.specs.declared.row.Row.{Row}
 use Rattle.rules.specs.declared.table.Table.{Table}
 use Rattle.rules.specs.declared.modality.Modality.{Modality}
-use Rattle.rules.specs.Grammar.{Level, window, limit, part, meet, expr, modal_token, side_token, Phrase, tokens_of}
-use Rattle.rules.specs.Tables.{limit_of, rows_of, rises, first_deep_lem}
+use Rattle.rules.specs.Grammar.{PhraseSort, window, limit, part, meet, expr, modal_token, side_token, Phrase, phrase_tokens}
+use Rattle.rules.specs.Tables.{limit_of, rows_of, rises, deep_place}
 use Rattle.rules.specs.declared.row.Side.{Side}
 
 -- the tokens that are left do not begin with this token, with a side, with a number, with a limit, with a part, with the end of brackets
@@ -35,7 +35,7 @@ NoEnd [] = Unit {0}
 NoEnd (t ∷ r) = (t ≢ Close) × (t ≢ Until)
 
 -- a phrase of this kind cannot go on with the tokens that follow
-abbrev pub Over : Level → List Token → Type 0
+abbrev pub Over : PhraseSort → List Token → Type 0
 Over window ts = Unit {0}
 Over limit ts = Unit {0}
 Over part ts = Unit {0}
@@ -45,13 +45,13 @@ Over expr [] = Unit {0}
 Over expr (t ∷ r) = (t ≢ And) × (t ≢ Or)
 
 -- ts begins with a phrase, after which rest is left, and which cannot go on with rest
-pub record Read (l : Level) (ts rest : List Token) : Type 0 where
+pub record Read (l : PhraseSort) (ts rest : List Token) : Type 0 where
   pub phrase : Phrase l
-  pub text : ts ≡ tokens_of phrase ++ rest
+  pub text : ts ≡ phrase_tokens phrase ++ rest
   pub over : Over l rest
 
 -- a phrase is begun by us, and rest is left where it cannot go on
-pub data Stops : Level → List Token → List Token → Type 0 where
+pub data Stops : PhraseSort → List Token → List Token → Type 0 where
   no_left : {rest : List Token} → Isnt Left rest → Stops window rest rest
   no_from : {us rest : List Token} → us ≡ Left ∷ rest → NoNumber rest → Stops window us rest
   no_comma : {us rest : List Token} (a : ℕ) → us ≡ Left ∷ (Number a ∷ rest) → Isnt Comma rest → Stops window us rest
@@ -64,26 +64,26 @@ pub data Stops : Level → List Token → List Token → Type 0 where
   in_test : {us ts rest : List Token} (o : Option ℕ) (s : Side) → us ≡ Name o ∷ (side_token s ∷ ts) → Stops limit ts rest → Stops part us rest
   in_not : {us ts rest : List Token} → us ≡ Not ∷ ts → Stops part ts rest → Stops part us rest
   in_window : {us ts rest : List Token} (m : Modality) → us ≡ modal_token m ∷ ts → Stops window ts rest → Stops part us rest
-  in_modal : {us ts rest : List Token} (m : Modality) (w : Phrase window) → us ≡ modal_token m ∷ (tokens_of w ++ ts) → Stops part ts rest → Stops part us rest
+  in_modal : {us ts rest : List Token} (m : Modality) (w : Phrase window) → us ≡ modal_token m ∷ (phrase_tokens w ++ ts) → Stops part ts rest → Stops part us rest
   in_open : {us ts rest : List Token} → us ≡ Open ∷ ts → Stops expr ts rest → Stops part us rest
   no_end : {us ts rest : List Token} → us ≡ Open ∷ ts → Read expr ts rest → NoEnd rest → Stops part us rest
-  in_until : {us ts rest : List Token} (e : Phrase expr) → us ≡ Open ∷ (tokens_of e ++ (Until ∷ ts)) → Stops window ts rest → Stops part us rest
-  in_second : {us ts rest : List Token} (e : Phrase expr) (w : Phrase window) → us ≡ Open ∷ (tokens_of e ++ (Until ∷ (tokens_of w ++ ts))) → Stops expr ts rest → Stops part us rest
-  no_close : {us ts rest : List Token} (e : Phrase expr) (w : Phrase window) → us ≡ Open ∷ (tokens_of e ++ (Until ∷ (tokens_of w ++ ts))) → Read expr ts rest → Isnt Close rest → Stops part us rest
+  in_until : {us ts rest : List Token} (e : Phrase expr) → us ≡ Open ∷ (phrase_tokens e ++ (Until ∷ ts)) → Stops window ts rest → Stops part us rest
+  in_second : {us ts rest : List Token} (e : Phrase expr) (w : Phrase window) → us ≡ Open ∷ (phrase_tokens e ++ (Until ∷ (phrase_tokens w ++ ts))) → Stops expr ts rest → Stops part us rest
+  no_close : {us ts rest : List Token} (e : Phrase expr) (w : Phrase window) → us ≡ Open ∷ (phrase_tokens e ++ (Until ∷ (phrase_tokens w ++ ts))) → Read expr ts rest → Isnt Close rest → Stops part us rest
   first_part : {ts rest : List Token} → Stops part ts rest → Stops meet ts rest
-  next_part : {ts us rest : List Token} (m : Phrase meet) → us ≡ tokens_of m ++ (And ∷ ts) → Stops part ts rest → Stops meet us rest
+  next_part : {ts us rest : List Token} (m : Phrase meet) → us ≡ phrase_tokens m ++ (And ∷ ts) → Stops part ts rest → Stops meet us rest
   first_meet : {ts rest : List Token} → Stops meet ts rest → Stops expr ts rest
-  next_meet : {ts us rest : List Token} (e : Phrase expr) → us ≡ tokens_of e ++ (Or ∷ ts) → Stops meet ts rest → Stops expr us rest
+  next_meet : {ts us rest : List Token} (e : Phrase expr) → us ≡ phrase_tokens e ++ (Or ∷ ts) → Stops meet ts rest → Stops expr us rest
 
 -- from place at the phrase p is read, which ends before place e
-pub record ReadAs {l : Level} (p : Phrase l) (ts : List Token) (at e : ℕ) : Type 0 where
+pub record ReadAs {l : PhraseSort} (p : Phrase l) (ts : List Token) (at e : ℕ) : Type 0 where
   pub on : at < e
   pub within : e ≤ length ts
-  pub text : drop at ts ≡ tokens_of p ++ drop e ts
+  pub text : drop at ts ≡ phrase_tokens p ++ drop e ts
   pub over : Over l (drop e ts)
 
 -- from place at a phrase is begun, and cannot go on at place i
-pub record StopsAt (l : Level) (ts : List Token) (at i : ℕ) : Type 0 where
+pub record StopsAt (l : PhraseSort) (ts : List Token) (at i : ℕ) : Type 0 where
   pub on : at ≤ i
   pub within : i ≤ length ts
   pub stops : Stops l (drop at ts) (drop i ts)
@@ -94,7 +94,7 @@ pub record IsAt (k : Token) (ts : List Token) (at : ℕ) : Type 0 where
   pub is : slice_index_or ts at Or ≡ k
 
 -- the token at place at is k, and e is the place behind it
-pub record Took (k : Token) (ts : List Token) (at e : ℕ) : Type 0 where
+pub record TookToken (k : Token) (ts : List Token) (at e : ℕ) : Type 0 where
   pub next : e ≡ at + 1
   pub within : e ≤ length ts
   pub text : drop at ts ≡ k ∷ drop e ts
@@ -111,14 +111,14 @@ pub record ReadLimit (ts : List Token) (at e : ℕ) (value : ℤ) : Type 0 where
   pub is : value ≡ limit_of phrase
 
 -- the table stands for these rows and these rises in depth: it counts the rows, keeps them while there are 64 at most, and keeps the first place that is too deep
-pub record Holds (t : Table) (rows : List Row) (rs : List (ℕ × ℕ)) : Type 0 where
+pub record TableHolds (t : Table) (rows : List Row) (rs : List (ℕ × ℕ)) : Type 0 where
   pub count : t.count ≡ length rows
   pub kept : length rows ≤ 64 → take t.count t.rows ≡ rows
-  pub deep : t.deep ≡ first_deep_lem rs
+  pub deep : t.deep ≡ deep_place rs
 
 -- rows and rises are added behind what the table stands for; the new rows may say where they begin
 abbrev pub Grows : Table → Table → (ℕ → List Row) → List (ℕ × ℕ) → Type 0
-Grows before after rows rs = (old : List Row) (deeper : List (ℕ × ℕ)) → Holds before old deeper → Holds after (old ++ rows (length old)) (deeper ++ rs)
+Grows before after rows rs = (old : List Row) (deeper : List (ℕ × ℕ)) → TableHolds before old deeper → TableHolds after (old ++ rows (length old)) (deeper ++ rs)
 
 -- one row more, whose number is at
 pub record Pushed (row : Row) (before after : Table) (at : ℕ) : Type 0 where
@@ -132,7 +132,7 @@ pub record Risen (at depth : ℕ) (before after : Table) : Type 0 where
   pub grows : Grows before after (λ b. []) ((at, depth) ∷ [])
 
 -- from place at a phrase of kind l is read at this depth, which ends before place next, and its rows are added to the table, the last at root
-pub record Built (l : Level) (ts : List Token) (at depth : ℕ) (before after : Table) (next root : ℕ) : Type 0 where
+pub record Built (l : PhraseSort) (ts : List Token) (at depth : ℕ) (before after : Table) (next root : ℕ) : Type 0 where
   pub phrase : Phrase l
   pub read : ReadAs phrase ts at next
   pub grows : Grows before after (λ b. rows_of b phrase) (rises depth at phrase)
@@ -141,7 +141,7 @@ pub record Built (l : Level) (ts : List Token) (at depth : ℕ) (before after : 
   pub few : after.count + at ≤ before.count + next
 
 -- a phrase may be read from place at on, at this depth: as many tokens stand before it as rows are in the table, and as tokens are around it
-pub record Ready (ts : List Token) (at depth : ℕ) (table : Table) : Type 0 where
+pub record ReaderReady (ts : List Token) (at depth : ℕ) (table : Table) : Type 0 where
   pub within : at ≤ length ts
   pub few : table.count ≤ at
   pub shallow : depth ≤ at

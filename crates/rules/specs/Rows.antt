@@ -83,19 +83,19 @@ uses [] c = 0
 uses (r ∷ rows) c = kids r c + uses rows c
 
 -- how many ticks ahead a row looks, by how far the earlier rows look
-abbrev pub row_reach_lem : List ℕ → Row → ℕ
-row_reach_lem rs (Test l s m) = 0
-row_reach_lem rs (Not a) = slice_index rs a
-row_reach_lem rs (And a b) = max (slice_index rs a) (slice_index rs b)
-row_reach_lem rs (Or a b) = max (slice_index rs a) (slice_index rs b)
-row_reach_lem rs (Eventually a b d) = slice_index rs d + b
-row_reach_lem rs (Always a b d) = slice_index rs d + b
-row_reach_lem rs (Until a b l r) = max (slice_index rs l) (slice_index rs r) + b
+abbrev pub row_reach_by : List ℕ → Row → ℕ
+row_reach_by rs (Test l s m) = 0
+row_reach_by rs (Not a) = slice_index rs a
+row_reach_by rs (And a b) = max (slice_index rs a) (slice_index rs b)
+row_reach_by rs (Or a b) = max (slice_index rs a) (slice_index rs b)
+row_reach_by rs (Eventually a b d) = slice_index rs d + b
+row_reach_by rs (Always a b d) = slice_index rs d + b
+row_reach_by rs (Until a b l r) = max (slice_index rs l) (slice_index rs r) + b
 
 -- rs with the reaches of the rows behind
 abbrev pub reaches_from : List ℕ → List Row → List ℕ
 reaches_from rs [] = rs
-reaches_from rs (r ∷ rows) = reaches_from (rs ++ (row_reach_lem rs r ∷ [])) rows
+reaches_from rs (r ∷ rows) = reaches_from (rs ++ (row_reach_by rs r ∷ [])) rows
 
 abbrev pub reach : List Row → ℕ
 reach rows = slice_index (reaches_from [] rows) (root rows)

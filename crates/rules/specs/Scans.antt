@@ -52,13 +52,13 @@ number_of (Name x) = None
 number_of (Number x) = Some x
 
 -- the number that the tokens begin with, if it is one
-abbrev pub number_at : List Token → Option ℕ
-number_at [] = None
-number_at (t ∷ r) = number_of t
+abbrev pub first_number : List Token → Option ℕ
+first_number [] = None
+first_number (t ∷ r) = number_of t
 
-abbrev pub far : Option ℕ → Bool
-far None = false
-far (Some n) = bad_limit n
+abbrev pub is_far_number : Option ℕ → Bool
+is_far_number None = false
+is_far_number (Some n) = bad_limit n
 
 abbrev pub askew : Option ℕ → Option ℕ → Bool
 askew None o = false
@@ -72,15 +72,15 @@ wrong_by And r = false
 wrong_by Not r = false
 wrong_by Open r = false
 wrong_by Close r = false
-wrong_by Left r = askew (number_at r) (number_at (drop 2 r))
+wrong_by Left r = askew (first_number r) (first_number (drop 2 r))
 wrong_by Right r = false
 wrong_by Comma r = false
-wrong_by Minus r = far (number_at r)
+wrong_by Minus r = is_far_number (first_number r)
 wrong_by Always r = false
 wrong_by Eventually r = false
 wrong_by Until r = false
-wrong_by AtLeast r = far (number_at r)
-wrong_by AtMost r = far (number_at r)
+wrong_by AtLeast r = is_far_number (first_number r)
+wrong_by AtMost r = is_far_number (first_number r)
 wrong_by (Name x) r = false
 wrong_by (Number x) r = false
 

@@ -4,10 +4,10 @@ use Rattle.rules.specs.declared.row.Row.{Row}
 use Rattle.rules.specs.declared.row.Row.TheVariants.{Test, Not, And, Or, Eventually, Always, Until}
 use Rattle.rules.specs.declared.modality.Modality.{Modality}
 use Rattle.rules.specs.declared.modality.Modality.TheVariants as modality
-use Rattle.rules.specs.Grammar.{Level, window, limit, Phrase, span, plain, minus, test, opposite, modal, brackets, until, one_part, both, one_meet, either, tokens_of}
+use Rattle.rules.specs.Grammar.{PhraseSort, window, limit, Phrase, span, plain, minus, test, opposite, modal, brackets, until, one_part, both, one_meet, either, phrase_tokens}
 
 -- how many rows a phrase has: brackets make none
-abbrev pub size : {l : Level} → Phrase l → ℕ
+abbrev pub size : {l : PhraseSort} → Phrase l → ℕ
 size (span a b) = 0
 size (plain n) = 0
 size (minus n) = 0
@@ -38,7 +38,7 @@ abbrev pub until_row : Phrase window → ℕ → ℕ → Row
 until_row (span a b) l r = Until a b l r
 
 -- the rows of a phrase whose first row has the number b: left child, right child, parent
-abbrev pub rows_of : {l : Level} → ℕ → Phrase l → List Row
+abbrev pub rows_of : {l : PhraseSort} → ℕ → Phrase l → List Row
 rows_of b (span a c) = []
 rows_of b (plain n) = []
 rows_of b (minus n) = []
@@ -53,21 +53,21 @@ rows_of b (one_meet m) = rows_of b m
 rows_of b (either e m) = rows_of b e ++ (rows_of (b + size e) m ++ (Or ((b + size e) - 1) (((b + size e) + size m) - 1) ∷ []))
 
 -- the tokens that make the depth rise, each with its place and the depth that it makes, where d of them are around the phrase, which begins at place p
-abbrev pub rises : {l : Level} → ℕ → ℕ → Phrase l → List (ℕ × ℕ)
+abbrev pub rises : {l : PhraseSort} → ℕ → ℕ → Phrase l → List (ℕ × ℕ)
 rises d p (span a b) = []
 rises d p (plain n) = []
 rises d p (minus n) = []
 rises d p (test o s v) = []
 rises d p (opposite q) = (p, d + 1) ∷ rises (d + 1) (p + 1) q
-rises d p (modal m w q) = (p, d + 1) ∷ rises (d + 1) ((p + 1) + length (tokens_of w)) q
+rises d p (modal m w q) = (p, d + 1) ∷ rises (d + 1) ((p + 1) + length (phrase_tokens w)) q
 rises d p (brackets e) = (p, d + 1) ∷ rises (d + 1) (p + 1) e
-rises d p (until e w f) = (p, d + 1) ∷ (rises (d + 1) (p + 1) e ++ rises (d + 1) ((((p + 1) + length (tokens_of e)) + 1) + length (tokens_of w)) f)
+rises d p (until e w f) = (p, d + 1) ∷ (rises (d + 1) (p + 1) e ++ rises (d + 1) ((((p + 1) + length (phrase_tokens e)) + 1) + length (phrase_tokens w)) f)
 rises d p (one_part q) = rises d p q
-rises d p (both m q) = rises d p m ++ rises d ((p + length (tokens_of m)) + 1) q
+rises d p (both m q) = rises d p m ++ rises d ((p + length (phrase_tokens m)) + 1) q
 rises d p (one_meet m) = rises d p m
-rises d p (either e m) = rises d p e ++ rises d ((p + length (tokens_of e)) + 1) m
+rises d p (either e m) = rises d p e ++ rises d ((p + length (phrase_tokens e)) + 1) m
 
 -- the first place at which the depth is above 16
-abbrev pub first_deep_lem : List (ℕ × ℕ) → Option ℕ
-first_deep_lem [] = None
-first_deep_lem (r ∷ rs) = cond (nat_lt 16 r.1) (Some r.0) (first_deep_lem rs)
+abbrev pub deep_place : List (ℕ × ℕ) → Option ℕ
+deep_place [] = None
+deep_place (r ∷ rs) = cond (nat_lt 16 r.1) (Some r.0) (deep_place rs)

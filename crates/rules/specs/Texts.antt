@@ -11,9 +11,9 @@ use Rattle.rules.specs.declared.fault.RuleFault.TheVariants.{Empty, Grammar, Unk
 use Rattle.rules.specs.declared.fault.RuleFault.TheVariants as fault
 use Rattle.rules.specs.Rows.{reach}
 use Rattle.rules.specs.Grammar.{expr, Phrase, Derives, Fails}
-use Rattle.rules.specs.Tables.{size, rows_of, rises, first_deep_lem}
-use Rattle.rules.specs.Checks.{unknown, wrong}
-use Rattle.rules.specs.Readers.{Holds}
+use Rattle.rules.specs.Tables.{size, rows_of, rises, deep_place}
+use Rattle.rules.specs.Checks.{unknown_place, wrong}
+use Rattle.rules.specs.Readers.{TableHolds}
 
 abbrev pub Answer : Type 0
 Answer = Result (List Row) RuleFault
@@ -43,13 +43,13 @@ abbrev pub few_enough : Phrase expr → Answer
 few_enough p = cond (nat_lt 64 (size p)) (Err TooManyRows) (near_enough p)
 
 abbrev pub shallow_enough : (ℕ → ℕ) → Phrase expr → Answer
-shallow_enough place p = unless (first_deep_lem (rises 0 0 p)) (λ i. TooDeep (place i)) (few_enough p)
+shallow_enough place p = unless (deep_place (rises 0 0 p)) (λ i. TooDeep (place i)) (few_enough p)
 
 abbrev pub in_bounds : (ℕ → ℕ) → Phrase expr → Answer
 in_bounds place p = unless (wrong p) (λ i. OutOfBounds (place i)) (shallow_enough place p)
 
 abbrev pub checked : (ℕ → ℕ) → Phrase expr → Answer
-checked place p = unless (unknown p) (λ i. UnknownName (place i)) (in_bounds place p)
+checked place p = unless (unknown_place p) (λ i. UnknownName (place i)) (in_bounds place p)
 
 -- tokens are answered by the grammar, and if they are an expression by the checks
 pub data Parsed (ts : List Token) (place : ℕ → ℕ) (r : Answer) : Type 0 where
@@ -64,15 +64,15 @@ pub data Answered (names : List (List ℕ)) (text : List ℕ) (r : Answer) : Typ
   parsed : (places : List ℕ) (ts : List Token) → 0 < length text → length text ≤ 1024 → Split names text places ts → Parsed ts (place_in places (length text)) r → Answered names text r
 
 -- a text has one answer
-abbrev pub OneAnswer : Type 0
-OneAnswer = (names : List (List ℕ)) (text : List ℕ) (r s : Answer) → Answered names text r → Answered names text s → r ≡ s
+abbrev pub OneRuleAnswer : Type 0
+OneRuleAnswer = (names : List (List ℕ)) (text : List ℕ) (r s : Answer) → Answered names text r → Answered names text s → r ≡ s
 
 -- tokens stop being the beginning of an expression at one place
-abbrev pub OnePlace : Type 0
-OnePlace = (ts : List Token) (i j : ℕ) → Fails ts i → Fails ts j → i ≡ j
+abbrev pub OneFaultPlace : Type 0
+OneFaultPlace = (ts : List Token) (i j : ℕ) → Fails ts i → Fails ts j → i ≡ j
 
 -- the table holds the rows and the rises of the one derivation of ts
 pub record Derived (ts : List Token) (t : Table) : Type 0 where
   pub phrase : Phrase expr
   pub derives : Derives ts phrase
-  pub holds : Holds t (rows_of 0 phrase) (rises 0 0 phrase)
+  pub holds : TableHolds t (rows_of 0 phrase) (rises 0 0 phrase)

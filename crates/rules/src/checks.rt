@@ -1,7 +1,7 @@
 // The checks over all tokens, once the grammar is kept.
 ghost use Rattle.std.specs.Prelude.{◌≡◌, ℕ, drop};
 ghost use Rattle.rules.specs.Checks.{bad_window, bad_limit};
-ghost use Rattle.rules.specs.Scans.{first_from, nameless, unknown_here, number_of, number_at, far, askew, wrong_by, wrong_here};
+ghost use Rattle.rules.specs.Scans.{first_from, nameless, unknown_here, number_of, first_number, is_far_number, askew, wrong_by, wrong_here};
 
 use tokens::token::Token;
 
@@ -33,13 +33,13 @@ fn number_of(token: Token) -> Option<u32>
 }
 
 fn number_at(tokens: &[Token], at: usize) -> Option<u32>
-    ensures { result ≡ number_at (drop at tokens.now) }
+    ensures { result ≡ first_number (drop at tokens.now) }
 {
     number_of(*tokens.get(at)?)
 }
 
 fn is_far(limit: Option<u32>) -> bool
-    ensures { result ≡ far limit }
+    ensures { result ≡ is_far_number limit }
 {
     limit.is_some_and(|n| n > LIMIT)
 }

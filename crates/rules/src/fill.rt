@@ -1,7 +1,7 @@
 // How the table fills.
 ghost use Rattle.std.specs.Prelude.{◌≡◌, ℕ, ◌+◌, ◌^◌, ◌<◌, [], if◌then◌else◌, Some, None, nat_lt};
 ghost use Rattle.std.specs.Option.{option_or};
-ghost use Rattle.rules.specs.Readers.{Holds, Pushed, Risen};
+ghost use Rattle.rules.specs.Readers.{TableHolds, Pushed, Risen};
 
 use crate::row::Row;
 use crate::table::Table;
@@ -11,7 +11,7 @@ const DEPTH: usize = 16;
 
 impl Table {
     pub(crate) fn new() -> Table
-        ensures { Holds result [] [] }
+        ensures { TableHolds result [] [] }
     {
         Table {
             rows: [Row::Not { child: 0 }; 64],

@@ -1,6 +1,6 @@
 // The numbers and places of the refusals.
 ghost use Rattle.std.specs.Prelude.{◌≡◌};
-ghost use Rattle.rules.specs.Faults.{fault_number, fault_place};
+ghost use Rattle.rules.specs.Faults.{rule_fault_number, fault_place};
 
 use crate::fault::RuleFault;
 use tokens::fault::TokenFault;
@@ -8,7 +8,7 @@ use tokens::fault::TokenFault;
 impl RuleFault {
     // 12 to 19, by which users know the refusal.
     pub fn number(self) -> u8
-        ensures { result ≡ fault_number self }
+        ensures { result ≡ rule_fault_number self }
     {
         match self {
             RuleFault::Empty | RuleFault::Token(TokenFault::TooLong) => 12,

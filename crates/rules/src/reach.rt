@@ -1,6 +1,6 @@
 // How many ticks ahead a table of rows looks.
 ghost use Rattle.std.specs.Prelude.{◌≡◌, ℕ, ◌+◌, ◌*◌, ◌<◌, ◌≤◌, length, slice_index};
-ghost use Rattle.rules.specs.Rows.{row_reach_lem as reach_of_row, reach};
+ghost use Rattle.rules.specs.Rows.{row_reach_by as reach_of_row, reach};
 
 use crate::row::Row;
 use arrayvec::ArrayVec;

@@ -2,7 +2,7 @@
 ghost use Rattle.std.specs.Prelude.{◌≡◌, ℕ, ◌+◌, ◌<◌, ◌≤◌, length, drop, MatchBool, MatchResult};
 ghost use Rattle.tokens.specs.declared.token.Token.TheVariants.{Number, Name};
 ghost use Rattle.rules.specs.Grammar.{part as a_part, meet as a_meet, expr as an_expr, window as a_window, limit as a_limit, span as a_span, modal_token, side_token, Fails};
-ghost use Rattle.rules.specs.Readers.{ReadAs, ReadLimit, StopsAt, Took, Missed, Isnt, NoSide, NoNumber, Built, Ready, IsAt, ShortNumbers};
+ghost use Rattle.rules.specs.Readers.{ReadAs, ReadLimit, StopsAt, TookToken, Missed, Isnt, NoSide, NoNumber, Built, ReaderReady, IsAt, ShortNumbers};
 ghost use Rattle.rules.specs.Texts.{Derived};
 
 use crate::modality::Modality;
@@ -64,7 +64,7 @@ impl Source<'_> {
 
     fn exact(&self, at: usize, wanted: Token) -> Result<usize, Stop>
         requires { at ≤ length self.now.tokens.now }
-        ensures { MatchResult result (λ e. Took wanted self.now.tokens.now at e) (λ f. Missed (Isnt wanted) self.now.tokens.now at f.at) }
+        ensures { MatchResult result (λ e. TookToken wanted self.now.tokens.now at e) (λ f. Missed (Isnt wanted) self.now.tokens.now at f.at) }
     {
         if self.has(at, wanted) {
             Ok(at + 1)
@@ -75,7 +75,7 @@ impl Source<'_> {
 
     fn number(&self, at: usize) -> Result<Taken<u32>, Stop>
         requires { at ≤ length self.now.tokens.now }
-        ensures { MatchResult result (λ n. Took (Number n.value) self.now.tokens.now at n.next) (λ f. Missed NoNumber self.now.tokens.now at f.at) }
+        ensures { MatchResult result (λ n. TookToken (Number n.value) self.now.tokens.now at n.next) (λ f. Missed NoNumber self.now.tokens.now at f.at) }
     {
         let token = self.token(at)?;
         match token {
@@ -89,7 +89,7 @@ impl Source<'_> {
 
     fn comparison(&self, at: usize) -> Result<Taken<Side>, Stop>
         requires { at ≤ length self.now.tokens.now }
-        ensures { MatchResult result (λ s. Took (side_token s.value) self.now.tokens.now at s.next) (λ f. Missed NoSide self.now.tokens.now at f.at) }
+        ensures { MatchResult result (λ s. TookToken (side_token s.value) self.now.tokens.now at s.next) (λ f. Missed NoSide self.now.tokens.now at f.at) }
     {
         let token = self.token(at)?;
         let value = match token {
@@ -167,7 +167,7 @@ impl Source<'_> {
     // Meets joined by `|`, grouped from the left.
     #[cycle(expression_meet_part)]
     fn expression(&self, at: usize, depth: usize, table: &mut Table) -> Result<Done, Stop>
-        requires { Ready self.now.tokens.now at depth table.old }
+        requires { ReaderReady self.now.tokens.now at depth table.old }
         ensures { MatchResult result (λ d. Built an_expr self.now.tokens.now at depth table.old table.new d.next d.root) (λ f. StopsAt an_expr self.now.tokens.now at f.at) }
     {
         let mut left = self.meet(at, depth, table)?;
@@ -188,7 +188,7 @@ impl Source<'_> {
     // Parts joined by `&`, grouped from the left.
     #[cycle(expression_meet_part)]
     fn meet(&self, at: usize, depth: usize, table: &mut Table) -> Result<Done, Stop>
-        requires { Ready self.now.tokens.now at depth table.old }
+        requires { ReaderReady self.now.tokens.now at depth table.old }
         ensures { MatchResult result (λ d. Built a_meet self.now.tokens.now at depth table.old table.new d.next d.root) (λ f. StopsAt a_meet self.now.tokens.now at f.at) }
     {
         let mut left = self.part(at, depth, table)?;
@@ -209,7 +209,7 @@ impl Source<'_> {
     // A test, or one of `!`, F, G and brackets around more.
     #[cycle(expression_meet_part)]
     fn part(&self, at: usize, depth: usize, table: &mut Table) -> Result<Done, Stop>
-        requires { Ready self.now.tokens.now at depth table.old }
+        requires { ReaderReady self.now.tokens.now at depth table.old }
         ensures { MatchResult result (λ d. Built a_part self.now.tokens.now at depth table.old table.new d.next d.root) (λ f. StopsAt a_part self.now.tokens.now at f.at) }
     {
         let token = self.token(at)?;
@@ -263,7 +263,7 @@ impl Source<'_> {
         depth: usize,
         table: &mut Table,
     ) -> Result<Done, Stop>
-        requires ready { Ready self.now.tokens.now at depth table.old }
+        requires ready { ReaderReady self.now.tokens.now at depth table.old }
         requires token { IsAt (modal_token modality) self.now.tokens.now at }
         ensures { MatchResult result (λ d. Built a_part self.now.tokens.now at depth table.old table.new d.next d.root) (λ f. StopsAt a_part self.now.tokens.now at f.at) }
     {

@@ -14,7 +14,7 @@ use Rattle.pieces.proofs.Chains.{only_one}
 use Rattle.pieces.proofs.Exists.{listed}
 use Rattle.meaning.specs.declared.reading.Reading.{Reading}
 use Rattle.meaning.specs.declared.mark.Mark.{Mark}
-use Rattle.meaning.specs.Readings.{Readings, Ends, Reads, widest, Within, entered}
+use Rattle.meaning.specs.Readings.{Readings, ReadingEnds, ReadingWith, widest, Within, entered}
 use Rattle.meaning.specs.Values.{value}
 use Rattle.meaning.specs.Verdicts.{ranges, verdict}
 use Rattle.rules.specs.Tested.{Tests}
@@ -25,8 +25,8 @@ use Rattle.meaning.proofs.Decided.{has_marks}
 use Rattle.meaning.proofs.Pinned.{lists_same}
 use Rattle.runs.specs.States.{State, readings_of, made, opened}
 use Rattle.runs.specs.Conditions.{Condition, FirstFailing}
-use Rattle.runs.specs.Jobs.{JobCall, enter, known, tally, seal, JobAnswer, accepted, first_unknown, count, counted, Narrows, Set, Room, enter_asks, FirstUnknown, job_asks, JobTurn}
-use Rattle.runs.specs.Calls.{Table, all, HasLines, RowLists, judge_asks, mark_asks, JudgeTurn, Marking, MarkTurn}
+use Rattle.runs.specs.Jobs.{JobCall, enter, known, tally, seal, JobAnswer, accepted, first_unknown, count, counted, Narrows, SetsPieces, FitsLine, enter_asks, FirstUnknown, job_asks, JobTurn}
+use Rattle.runs.specs.Calls.{RuleRows, all, HasLines, RowLists, judge_asks, mark_asks, JudgeTurn, MarkedVerdict, MarkTurn}
 use Rattle.runs.specs.Runs.{Call, on_job, judge, mark, Reply, event, Replies, events, Turn, Ran}
 use Rattle.runs.specs.Law.{Run}
 use Rattle.runs.proofs.Conditions.{AllTold, first_failing}
@@ -57,11 +57,11 @@ within? : (p q : Reading) → Dec (Within p q)
 within? p q =
     as? (λ h. record { lower = h.0; upper = h.1 }) (λ h. (h.lower, h.upper)) (both? (ℤ-le? q.lower p.lower) (ℤ-le? p.upper q.upper))
 
-ends? : (lower upper : ℤ) → Dec (Ends lower upper)
+ends? : (lower upper : ℤ) → Dec (ReadingEnds lower upper)
 ends? lower upper =
     as? (λ h. ((h.0.0, h.0.1), (h.1.0.0, h.1.0.1), h.1.1)) (λ h. ((h.0.0, h.0.1), ((h.1.0, h.1.1), h.2))) (both? (both? (ℤ-le? (negsuc 499999) lower) (ℤ-le? lower (pos 500000))) (both? (both? (ℤ-le? (negsuc 499999) upper) (ℤ-le? upper (pos 500000))) (ℤ-le? lower upper)))
 
-made_reads : (lower upper : ℤ) → Ends lower upper → Reads lower upper (Some (made lower upper))
+made_reads : (lower upper : ℤ) → ReadingEnds lower upper → ReadingWith lower upper (Some (made lower upper))
 made_reads lower upper h =
     let a = h.0 in
     let b = h.1 in
@@ -76,20 +76,20 @@ all? {P} d from to =
       | no n ↦ yes (λ u a b. elim (d u) [ yes p ↦ p | no q ↦ absurd (n (u, b, (a, q))) ])
     ]
 
-narrows? : (s : State) (line from to : ℕ) (lower upper : ℤ) → Ends lower upper → Dec (Narrows s line from to lower upper)
+narrows? : (s : State) (line from to : ℕ) (lower upper : ℤ) → ReadingEnds lower upper → Dec (Narrows s line from to lower upper)
 narrows? s line from to lower upper h =
     as? (λ a p r u b c. subst (λ (q : Reading). Within q (readings_of s line u)) (sym (made_is lower upper p r)) (a u b c)) (λ a u b c. a (made lower upper) (made_reads lower upper h) u b c) (all? (λ u. within? (made lower upper) (readings_of s line u)) from to)
 
 module _ (e : ℕ) (s : State) (ends : EndsAt e s) where
   -- the line once the reading is set
-  set_list : (line from to : ℕ) (lower upper : ℤ) → to ≤ e → Ends lower upper → (ps : List (Piece Reading)) × Set s line from to lower upper (made lower upper) ps
+  set_list : (line from to : ℕ) (lower upper : ℤ) → to ≤ e → ReadingEnds lower upper → (ps : List (Piece Reading)) × SetsPieces s line from to lower upper (made lower upper) ps
   set_list line from to lower upper le h =
       let f : ℕ → Reading = entered (readings_of s) line from to (made lower upper) line in
       let past : (t : ℕ) → e ≤ t → f t ≡ widest = λ t a. entered_elsewhere (readings_of s) line from to (made lower upper) line t (inr (inr (omega arith))) ∙ ends line t a in
       let l = listed reading? f e (λ t a. past t a ∙ sym (past e (omega arith))) in
       (l.0, (made_reads lower upper h, l.1))
 
-  room? : (line from to : ℕ) (lower upper : ℤ) → to ≤ e → Ends lower upper → Dec (Room s line from to lower upper)
+  room? : (line from to : ℕ) (lower upper : ℤ) → to ≤ e → ReadingEnds lower upper → Dec (FitsLine s line from to lower upper)
   room? line from to lower upper le h =
       let l = set_list line from to lower upper le h in
       let f : Reading → ℕ → Reading = λ p. entered (readings_of s) line from to p line in
@@ -156,7 +156,7 @@ module _ {K : Kind} (L : Lawful K) where
   span? : (p q : Span K.Value) → Dec (p ≡ q)
   span? p q = ends_same p q (K.same p.low q.low) (K.same p.high q.high)
 
-  module _ (e : ℕ) (s : State) (ends : EndsAt e s) (a : Table) where
+  module _ (e : ℕ) (s : State) (ends : EndsAt e s) (a : RuleRows) where
     abbrev x : Readings
     x = readings_of s
 
@@ -196,10 +196,10 @@ module _ {K : Kind} (L : Lawful K) where
         let m = has_marks L a.sound x t in
         (as? (λ few pss h. subst (λ (v : List (List (Piece Bool))). length (all v) ≤ wants) (one_want_lists K rows x t w.0 pss w.1 h) few) (λ fit. fit w.0 w.1) (dec_le (length (all w.0)) wants), λ _. (as? (λ few ms h. subst (λ (v : List Mark). length v ≤ marks) (lists_same {P = Marked K rows x t} m.0 ms m.1 h) few) (λ fit. fit m.0 m.1) (dec_le (length m.0) marks), λ _. tt))
 
-    pub mark_goes : (t cells wants marks : ℕ) → (r : Result (Marking K) ℕ) × MarkTurn K s rows t cells wants marks r
+    pub mark_goes : (t cells wants marks : ℕ) → (r : Result (MarkedVerdict K) ℕ) × MarkTurn K s rows t cells wants marks r
     mark_goes t cells wants marks = by (first_failing (judge_asks K s rows t cells (mark_asks K s rows t wants marks)) (judge_told t cells (mark_asks K s rows t wants marks) (mark_told t wants marks)))
       where
-        by : (o : Option ℕ) × FirstFailing (judge_asks K s rows t cells (mark_asks K s rows t wants marks)) o → (r : Result (Marking K) ℕ) × MarkTurn K s rows t cells wants marks r
+        by : (o : Option ℕ) × FirstFailing (judge_asks K s rows t cells (mark_asks K s rows t wants marks)) o → (r : Result (MarkedVerdict K) ℕ) × MarkTurn K s rows t cells wants marks r
         by (Some n, h) = (Err n, h)
         by (None, h) = let m = has_marks L a.sound x t in (Ok (record { verdict = verdict K rows x t; marks = m.0 }), (h, refl, m.1))
 

@@ -7,13 +7,13 @@ use Rattle.rules.specs.Rows.{row_at}
 use Rattle.pieces.specs.Pieces.{Lists}
 use Rattle.meaning.specs.declared.reading.Reading.{Reading}
 use Rattle.meaning.specs.declared.mark.Mark.{Mark}
-use Rattle.meaning.specs.Readings.{Readings, Ends, Reads, widest, Within, AllWithin, entered}
+use Rattle.meaning.specs.Readings.{Readings, ReadingEnds, ReadingWith, widest, Within, AllWithin, entered}
 use Rattle.rules.specs.Tested.{Tests}
 use Rattle.meaning.specs.Marks.{Listed}
 use Rattle.meaning.proofs.Readings.{reading_same}
 use Rattle.runs.specs.States.{State, reading_at, readings_of, made, blank, opened}
 use Rattle.runs.specs.Conditions.{FirstFailing}
-use Rattle.runs.specs.Jobs.{enter, known, tally, seal, JobAnswer, Narrows, Room, enter_asks, job_asks, JobTurn}
+use Rattle.runs.specs.Jobs.{enter, known, tally, seal, JobAnswer, Narrows, FitsLine, enter_asks, job_asks, JobTurn}
 use Rattle.runs.specs.Runs.{on_job, judge, mark, Setting, Event, event, Turn, Ran, sets, after, after_all, is_seal, AllMiss}
 use Rattle.runs.proofs.Conditions.{all_hold}
 use Rattle.runs.proofs.Settings.{SetBetween, within_refl, within_trans, set_reads, setting_same, set_narrows, set_misses, EndsAt, set_ends}
@@ -23,18 +23,18 @@ pub record Passed (s : State) (line from to : ℕ) (lower upper : ℤ) : Type 0 
   pub unsealed : s.sealed ≡ false
   pub there : line < length s.lines
   pub stretch : (from < to) × (to ≤ 1000000001)
-  pub ends : Ends lower upper
+  pub ends : ReadingEnds lower upper
   pub narrows : Narrows s line from to lower upper
-  pub room : Room s line from to lower upper
+  pub room : FitsLine s line from to lower upper
 
 pub entry_passes : (s : State) (line from to : ℕ) (lower upper : ℤ) → FirstFailing (enter_asks s line from to lower upper) None → Passed s line from to lower upper
 entry_passes s line from to lower upper h = by (all_hold (enter_asks s line from to lower upper) h)
   where
-    by : (s.sealed ≡ false) × ((line < length s.lines) × (((from < to) × (to ≤ 1000000001)) × (Ends lower upper × (Narrows s line from to lower upper × (Room s line from to lower upper × Unit {0}))))) → Passed s line from to lower upper
+    by : (s.sealed ≡ false) × ((line < length s.lines) × (((from < to) × (to ≤ 1000000001)) × (ReadingEnds lower upper × (Narrows s line from to lower upper × (FitsLine s line from to lower upper × Unit {0}))))) → Passed s line from to lower upper
     by (a, (b, (c, (d, (e, (f, u)))))) = record { unsealed = a; there = b; stretch = c; ends = d; narrows = e; room = f }
 
 -- the reading that an entry names
-pub made_is : (lower upper : ℤ) (p : Reading) → Reads lower upper (Some p) → p ≡ made lower upper
+pub made_is : (lower upper : ℤ) (p : Reading) → ReadingWith lower upper (Some p) → p ≡ made lower upper
 made_is lower upper p h =
     let a = h.0 in
     let b = h.1 in

@@ -11,7 +11,7 @@ use Rattle.meaning.specs.Marks.{Marked}
 use Rattle.meaning.proofs.Pinned.{lists_same}
 use Rattle.runs.specs.States.{State, opened, readings_of}
 use Rattle.runs.specs.Jobs.{JobCall, enter, known, tally, seal, JobAnswer, first_unknown, counted, FirstUnknown, job_asks, JobDoes, JobTurn}
-use Rattle.runs.specs.Calls.{Table, Marking, judge_asks, mark_asks, JudgeTurn, MarkTurn}
+use Rattle.runs.specs.Calls.{RuleRows, MarkedVerdict, judge_asks, mark_asks, JudgeTurn, MarkTurn}
 use Rattle.runs.specs.Runs.{Call, on_job, judge, mark, Reply, Event, event, Replies, events, Turn, Ran}
 use Rattle.runs.specs.Law.{Run}
 use Rattle.runs.proofs.Conditions.{one_failing}
@@ -71,13 +71,13 @@ job_one s c (Err n) (Ok b) z y h k = never n (one_failing (job_asks s c) None (S
 job_one s c (Err m) (Err n) z y h k =
     record { reply = ap (λ (v : ℕ). Err v) (same_number m n (one_failing (job_asks s c) (Some m) (Some n) h.0 k.0)); end = h.1 ∙ sym k.1 }
 
-pub judge_one : (K : Kind) (s : State) (a : Table) (t c : ℕ) (r q : Result (Span K.Value) ℕ) → JudgeTurn K s a.rows t c r → JudgeTurn K s a.rows t c q → r ≡ q
+pub judge_one : (K : Kind) (s : State) (a : RuleRows) (t c : ℕ) (r q : Result (Span K.Value) ℕ) → JudgeTurn K s a.rows t c r → JudgeTurn K s a.rows t c q → r ≡ q
 judge_one K s a t c (Ok p) (Ok q) h k = ap (λ (v : Span K.Value). Ok v) (h.1 ∙ sym k.1)
 judge_one K s a t c (Ok p) (Err n) h k = never n (one_failing (judge_asks K s a.rows t c []) None (Some n) h.0 k)
 judge_one K s a t c (Err n) (Ok q) h k = never n (one_failing (judge_asks K s a.rows t c []) None (Some n) k.0 h)
 judge_one K s a t c (Err m) (Err n) h k = ap (λ (v : ℕ). Err v) (same_number m n (one_failing (judge_asks K s a.rows t c []) (Some m) (Some n) h k))
 
-pub mark_one : (K : Kind) (s : State) (a : Table) (t c w m : ℕ) (r q : Result (Marking K) ℕ) → MarkTurn K s a.rows t c w m r → MarkTurn K s a.rows t c w m q → r ≡ q
+pub mark_one : (K : Kind) (s : State) (a : RuleRows) (t c w m : ℕ) (r q : Result (MarkedVerdict K) ℕ) → MarkTurn K s a.rows t c w m r → MarkTurn K s a.rows t c w m q → r ≡ q
 mark_one K s a t c w m (Ok p) (Ok q) h k =
     let v = h.1 ∙ sym k.1 in
     let ms = lists_same {P = Marked K a.rows (readings_of s) t} p.marks q.marks h.2 k.2 in

@@ -17,7 +17,7 @@ use Rattle.runs.specs.States.{State, readings_of}
 use Rattle.runs.specs.Conditions.{Condition, asks, FirstFailing}
 
 -- a rule, by its rows
-pub record Table : Type 0 where
+pub record RuleRows : Type 0 where
   pub rows : List Row
   pub sound : Sound rows
 
@@ -62,12 +62,12 @@ JudgeTurn K s rows t cells (Ok p) = FirstFailing (judge_asks K s rows t cells []
 JudgeTurn K s rows t cells (Err n) = FirstFailing (judge_asks K s rows t cells []) (Some n)
 
 -- a verdict with its marks
-pub record Marking (K : Kind) : Type 0 where
+pub record MarkedVerdict (K : Kind) : Type 0 where
   pub verdict : Span K.Value
   pub marks : List Mark
 
 -- a marking of the state s
-abbrev pub MarkTurn : (K : Kind) → State → List Row → ℕ → ℕ → ℕ → ℕ → Result (Marking K) ℕ → Type 0
+abbrev pub MarkTurn : (K : Kind) → State → List Row → ℕ → ℕ → ℕ → ℕ → Result (MarkedVerdict K) ℕ → Type 0
 MarkTurn K s rows t row_cells want_cells mark_cells (Ok m) =
     FirstFailing (judge_asks K s rows t row_cells (mark_asks K s rows t want_cells mark_cells)) None × (m.verdict ≡ verdict K rows (readings_of s) t) × Marks K rows (readings_of s) t m.marks
 MarkTurn K s rows t row_cells want_cells mark_cells (Err n) = FirstFailing (judge_asks K s rows t row_cells (mark_asks K s rows t want_cells mark_cells)) (Some n)

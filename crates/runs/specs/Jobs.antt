@@ -3,7 +3,7 @@ use Rattle.std.specs.Prelude.{◌≡◌, ℕ, ◌+◌, ◌<◌, ◌≤◌, min, 
 use Rattle.pieces.specs.declared.piece.Piece.{Piece}
 use Rattle.pieces.specs.Pieces.{Lists}
 use Rattle.meaning.specs.declared.reading.Reading.{Reading}
-use Rattle.meaning.specs.Readings.{Readings, Ends, Reads, widest, Within, entered}
+use Rattle.meaning.specs.Readings.{Readings, ReadingEnds, ReadingWith, widest, Within, entered}
 use Rattle.runs.specs.Bounds.{line_cells, last_end}
 use Rattle.runs.specs.States.{State, readings_of}
 use Rattle.runs.specs.Conditions.{Condition, asks, FirstFailing}
@@ -22,20 +22,20 @@ pub data JobAnswer : Type 0 where
 module _ (s : State) (line from to : ℕ) (lower upper : ℤ) where
   -- the reading is inside the standing one at each tick of the stretch
   abbrev pub Narrows : Type 0
-  Narrows = (p : Reading) → Reads lower upper (Some p) → (u : ℕ) → from ≤ u → u < to → Within p (readings_of s line u)
+  Narrows = (p : Reading) → ReadingWith lower upper (Some p) → (u : ℕ) → from ≤ u → u < to → Within p (readings_of s line u)
 
   -- the line's pieces once the reading is set
-  abbrev pub Set : Reading → List (Piece Reading) → Type 0
-  Set p ps = Reads lower upper (Some p) × Lists (entered (readings_of s) line from to p line) ps
+  abbrev pub SetsPieces : Reading → List (Piece Reading) → Type 0
+  SetsPieces p ps = ReadingWith lower upper (Some p) × Lists (entered (readings_of s) line from to p line) ps
 
   -- the line's cells suffice for its pieces then
-  abbrev pub Room : Type 0
-  Room = (p : Reading) (ps : List (Piece Reading)) → Set p ps → length ps ≤ line_cells
+  abbrev pub FitsLine : Type 0
+  FitsLine = (p : Reading) (ps : List (Piece Reading)) → SetsPieces p ps → length ps ≤ line_cells
 
   -- numbers 1 to 6
   abbrev pub enter_asks : List Condition
   enter_asks =
-      asks 1 (s.sealed ≡ false) ∷ (asks 2 (line < length s.lines) ∷ (asks 3 ((from < to) × (to ≤ last_end)) ∷ (asks 4 (Ends lower upper) ∷ (asks 5 Narrows ∷ (asks 6 Room ∷ [])))))
+      asks 1 (s.sealed ≡ false) ∷ (asks 2 (line < length s.lines) ∷ (asks 3 ((from < to) × (to ≤ last_end)) ∷ (asks 4 (ReadingEnds lower upper) ∷ (asks 5 Narrows ∷ (asks 6 FitsLine ∷ [])))))
 
 -- an accepted entry counts, up to where the tally rests
 abbrev pub counted : ℕ → ℕ
@@ -55,7 +55,7 @@ job_asks s seal = []
 -- the accepted call answers a and leaves the state z
 abbrev pub JobDoes : State → JobCall → JobAnswer → State → Type 0
 JobDoes s (enter line from to lower upper) a z =
-    (a ≡ accepted) × ((p : Reading) × ((ps : List (Piece Reading)) × (Set s line from to lower upper p ps × (z ≡ record s { lines = slice_set s.lines line ps; tally = counted s.tally }))))
+    (a ≡ accepted) × ((p : Reading) × ((ps : List (Piece Reading)) × (SetsPieces s line from to lower upper p ps × (z ≡ record s { lines = slice_set s.lines line ps; tally = counted s.tally }))))
 JobDoes s (known line) a z = (t : ℕ) × (FirstUnknown (readings_of s) line t × (a ≡ first_unknown t) × (z ≡ s))
 JobDoes s tally a z = (a ≡ count s.tally) × (z ≡ s)
 JobDoes s seal a z = (a ≡ accepted) × (z ≡ record s { sealed = true })

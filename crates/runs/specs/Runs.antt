@@ -11,7 +11,7 @@ use Rattle.rules.specs.Tested.{Tests}
 use Rattle.meaning.specs.Marks.{Listed}
 use Rattle.runs.specs.States.{State, made}
 use Rattle.runs.specs.Jobs.{JobCall, enter, seal, JobAnswer, JobTurn}
-use Rattle.runs.specs.Calls.{Table, Marking, JudgeTurn, MarkTurn}
+use Rattle.runs.specs.Calls.{RuleRows, MarkedVerdict, JudgeTurn, MarkTurn}
 
 -- what an accepted entry sets: the line's reading at each tick from one to the tick before another
 pub record Setting : Type 0 where
@@ -44,14 +44,14 @@ module _ {N : Type 0} (kinds : N → Kind) where
   -- a call, with the numbers of cells that it was lent
   pub data Call : Type 0 where
     on_job : JobCall → Call
-    judge : N → Table → (tick cells : ℕ) → Call
-    mark : N → Table → (tick row_cells want_cells mark_cells : ℕ) → Call
+    judge : N → RuleRows → (tick cells : ℕ) → Call
+    mark : N → RuleRows → (tick row_cells want_cells mark_cells : ℕ) → Call
 
   -- what the call may answer: a refusal has a number
   abbrev pub Reply : Call → Type 0
   Reply (on_job c) = Result JobAnswer ℕ
   Reply (judge n a t c) = Result (Span (kinds n).Value) ℕ
-  Reply (mark n a t c w m) = Result (Marking (kinds n)) ℕ
+  Reply (mark n a t c w m) = Result (MarkedVerdict (kinds n)) ℕ
 
   -- a call with its reply
   pub data Event : Type 0 where
@@ -111,12 +111,12 @@ module _ {N : Type 0} (kinds : N → Kind) where
 
   -- the event is an accepted judgement or marking by the kind n of these rows at the tick t, and p is its verdict
   pub data Gives : Event → (n : N) → List Row → ℕ → Span (kinds n).Value → Type 0 where
-    by_judge : {n : N} {t : ℕ} {rows : List Row} {p : Span (kinds n).Value} (a : Table) (c : ℕ) → a.rows ≡ rows → Gives (event (judge n a t c) (Ok p)) n rows t p
-    by_mark : {n : N} {t : ℕ} {rows : List Row} (a : Table) (c w k : ℕ) (m : Marking (kinds n)) → a.rows ≡ rows → Gives (event (mark n a t c w k) (Ok m)) n rows t m.verdict
+    by_judge : {n : N} {t : ℕ} {rows : List Row} {p : Span (kinds n).Value} (a : RuleRows) (c : ℕ) → a.rows ≡ rows → Gives (event (judge n a t c) (Ok p)) n rows t p
+    by_mark : {n : N} {t : ℕ} {rows : List Row} (a : RuleRows) (c w k : ℕ) (m : MarkedVerdict (kinds n)) → a.rows ≡ rows → Gives (event (mark n a t c w k) (Ok m)) n rows t m.verdict
 
   -- the event is an accepted marking, and ms are its marks
   pub data MarksBy : Event → (n : N) → List Row → ℕ → Span (kinds n).Value → List Mark → Type 0 where
-    marked : {n : N} {t : ℕ} {rows : List Row} (a : Table) (c w k : ℕ) (m : Marking (kinds n)) → a.rows ≡ rows → MarksBy (event (mark n a t c w k) (Ok m)) n rows t m.verdict m.marks
+    marked : {n : N} {t : ℕ} {rows : List Row} (a : RuleRows) (c w k : ℕ) (m : MarkedVerdict (kinds n)) → a.rows ≡ rows → MarksBy (event (mark n a t c w k) (Ok m)) n rows t m.verdict m.marks
 
   -- the event is no accepted entry that touches a listed stretch
   abbrev pub Misses : List Row → List Mark → Event → Type 0

@@ -3,15 +3,15 @@ use Rattle.std.specs.Prelude.{ℕ, List, codes}
 use Rattle.script_lines.specs.declared.keyword.Keyword.{Keyword}
 use Rattle.script_lines.specs.declared.keyword.Keyword.TheVariants.{Line, Rule, Enter, Known, Tally, Seal, Cells, Judge, Mark, Show, Wants}
 
-abbrev pub spelled : Keyword → List ℕ
-spelled Line = codes "line"
-spelled Rule = codes "rule"
-spelled Enter = codes "enter"
-spelled Known = codes "known"
-spelled Tally = codes "tally"
-spelled Seal = codes "seal"
-spelled Cells = codes "cells"
-spelled Judge = codes "judge"
-spelled Mark = codes "mark"
-spelled Show = codes "show"
-spelled Wants = codes "wants"
+abbrev pub script_word : Keyword → List ℕ
+script_word Line = codes "line"
+script_word Rule = codes "rule"
+script_word Enter = codes "enter"
+script_word Known = codes "known"
+script_word Tally = codes "tally"
+script_word Seal = codes "seal"
+script_word Cells = codes "cells"
+script_word Judge = codes "judge"
+script_word Mark = codes "mark"
+script_word Show = codes "show"
+script_word Wants = codes "wants"

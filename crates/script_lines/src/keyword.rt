@@ -1,7 +1,7 @@
 // The words that lines begin with.
 ghost use Rattle.std.specs.Prelude.{◌≡◌, MatchOption};
 ghost use Rattle.script_lines.specs.declared.keyword.Keyword.{Keyword};
-ghost use Rattle.script_lines.specs.Keywords.{spelled};
+ghost use Rattle.script_lines.specs.Keywords.{script_word};
 
 #[derive(Clone, Copy)]
 pub(crate) enum Keyword {
@@ -20,7 +20,7 @@ pub(crate) enum Keyword {
 
 // The keyword that the word is, if it is one.
 pub(crate) fn keyword_of(word: &[u8]) -> Option<Keyword>
-    ensures { MatchOption result ((k : Keyword) → word.now ≡ spelled k → ⊥) (λ k. word.now ≡ spelled k) }
+    ensures { MatchOption result ((k : Keyword) → word.now ≡ script_word k → ⊥) (λ k. word.now ≡ script_word k) }
 {
     match word {
         b"line" => Some(Keyword::Line),

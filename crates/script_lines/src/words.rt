@@ -1,7 +1,7 @@
 // The words behind a line's first: numbers up to a limit, lines of the job, and kinds of grade.
 ghost use Rattle.std.specs.Prelude.{◌≡◌, MatchOption};
 ghost use Rattle.tokens.specs.Answers.{texts};
-ghost use Rattle.case_text.specs.Parts.{Reads};
+ghost use Rattle.case_text.specs.Parts.{ValueRead};
 ghost use Rattle.script_lines.specs.declared.step.GradeKind.{GradeKind};
 ghost use Rattle.script_lines.specs.Arguments.{UpTo, NamesLine, kind_word};
 
@@ -11,7 +11,7 @@ use case_text::word::line_of;
 
 // The whole number that the word writes, if it is no more than `most`.
 pub(crate) fn up_to(word: &[u8], most: u32) -> Option<u32>
-    ensures { Reads (UpTo most word.now) result }
+    ensures { ValueRead (UpTo most word.now) result }
 {
     let number = whole(word)?;
     (number <= most).then_some(number)
@@ -19,7 +19,7 @@ pub(crate) fn up_to(word: &[u8], most: u32) -> Option<u32>
 
 // The line that the word names, or whose number it writes.
 pub(crate) fn named_line(names: &[&[u8]], word: &[u8]) -> Option<u8>
-    ensures { Reads (NamesLine (texts names.now) word.now) result }
+    ensures { ValueRead (NamesLine (texts names.now) word.now) result }
 {
     match line_of(names, word) {
         Some(line) => Some(line),

@@ -9,7 +9,7 @@ use Rattle.meaning.specs.declared.mark.Mark.{Mark}
 use Rattle.meaning.specs.Readings.{Readings}
 use Rattle.runs.specs.States.{State}
 use Rattle.runs.specs.Jobs.{JobAnswer, enter, JobTurn}
-use Rattle.runs.specs.Calls.{JudgeTurn, MarkTurn, Marking as Marked}
+use Rattle.runs.specs.Calls.{JudgeTurn, MarkTurn, MarkedVerdict as Marked}
 use Rattle.judge.specs.declared.fault.MarkFault.{MarkFault}
 use Rattle.judge.specs.declared.marking.Marking.{Marking}
 use Rattle.judge.specs.Answers.{mark_reply, MarkedCells}

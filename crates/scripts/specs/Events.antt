@@ -8,7 +8,7 @@ use Rattle.grades.specs.declared.range.Range.{Range}
 use Rattle.rules.specs.Texts.{table_of}
 use Rattle.meaning.specs.declared.mark.Mark.{Mark}
 use Rattle.runs.specs.Jobs.{enter, known, tally, seal, accepted, count}
-use Rattle.runs.specs.Calls.{Table}
+use Rattle.runs.specs.Calls.{RuleRows}
 use Rattle.runs.specs.Runs.{Event, on_job, judge, mark, event}
 use Rattle.jobs.specs.declared.fault.EnterFault.{EnterFault}
 use Rattle.jobs.specs.declared.fault.NoSuchLine.{NoSuchLine}
@@ -32,13 +32,13 @@ pub data IsEvent (n : CellCounts) (c : Call) (r : Reply) (ms : List Mark) (e : E
   is_known : (line : ℕ) (q : Result ℕ NoSuchLine) → c ≡ Known line → r ≡ reply.Known q → e ≡ event (on_job (known line)) (known_reply q) → IsEvent n c r ms e
   is_tally : (k : ℕ) → c ≡ Tally → r ≡ reply.Tally k → e ≡ event (on_job tally) (Ok (count k)) → IsEvent n c r ms e
   is_seal : c ≡ Seal → r ≡ reply.Sealed → e ≡ event (on_job seal) (Ok accepted) → IsEvent n c r ms e
-  is_judge_truth : (rule : _) (t rows : ℕ) (q : Result (Range Truth) JudgeFault) (a : Table) → c ≡ JudgeTruth rule t rows → r ≡ reply.JudgedTruth q → a.rows ≡ table_of rule.now →
+  is_judge_truth : (rule : _) (t rows : ℕ) (q : Result (Range Truth) JudgeFault) (a : RuleRows) → c ≡ JudgeTruth rule t rows → r ≡ reply.JudgedTruth q → a.rows ≡ table_of rule.now →
       e ≡ event (judge true a t (min rows n.truth_rows)) (judge_reply truths truth_value q) → IsEvent n c r ms e
-  is_judge_margin : (rule : _) (t rows : ℕ) (q : Result (Range Margin) JudgeFault) (a : Table) → c ≡ JudgeMargin rule t rows → r ≡ reply.JudgedMargin q → a.rows ≡ table_of rule.now →
+  is_judge_margin : (rule : _) (t rows : ℕ) (q : Result (Range Margin) JudgeFault) (a : RuleRows) → c ≡ JudgeMargin rule t rows → r ≡ reply.JudgedMargin q → a.rows ≡ table_of rule.now →
       e ≡ event (judge false a t (min rows n.margin_rows)) (judge_reply margins margin_level q) → IsEvent n c r ms e
-  is_mark_truth : (rule : _) (t : ℕ) (p : Portion) (q : Result (Marking Truth) MarkFault) (a : Table) → c ≡ MarkTruth rule t p → r ≡ reply.MarkedTruth q → a.rows ≡ table_of rule.now →
+  is_mark_truth : (rule : _) (t : ℕ) (p : Portion) (q : Result (Marking Truth) MarkFault) (a : RuleRows) → c ≡ MarkTruth rule t p → r ≡ reply.MarkedTruth q → a.rows ≡ table_of rule.now →
       e ≡ event (mark true a t (min p.rows n.truth_rows) (min p.wants n.wants) (min p.marks n.marks)) (mark_reply truths truth_value ms q) → IsEvent n c r ms e
-  is_mark_margin : (rule : _) (t : ℕ) (p : Portion) (q : Result (Marking Margin) MarkFault) (a : Table) → c ≡ MarkMargin rule t p → r ≡ reply.MarkedMargin q → a.rows ≡ table_of rule.now →
+  is_mark_margin : (rule : _) (t : ℕ) (p : Portion) (q : Result (Marking Margin) MarkFault) (a : RuleRows) → c ≡ MarkMargin rule t p → r ≡ reply.MarkedMargin q → a.rows ≡ table_of rule.now →
       e ≡ event (mark false a t (min p.rows n.margin_rows) (min p.wants n.wants) (min p.marks n.marks)) (mark_reply margins margin_level ms q) → IsEvent n c r ms e
 
 -- how many marks a reply speaks of

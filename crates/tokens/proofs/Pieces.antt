@@ -4,27 +4,27 @@ use mathlib.Core.List.{head-eq_of_cons-eq, tail-eq_of_cons-eq}
 use Rattle.std.specs.List.{AllByRecursion}
 use Rattle.tokens.specs.declared.token.Token.{Token}
 use Rattle.tokens.specs.declared.token.Token.TheVariants.{Or, And, Not, Open, Close, Left, Right, Comma, Minus, Always, Eventually, Until, AtLeast, AtMost, Name, Number}
-use Rattle.tokens.specs.Words.{Small, Digit, Blank, NameByte, Begins, IsName, IsNumber, decimal, LineOf, Spells}
-use Rattle.tokens.specs.Splits.{Longest, Malformed, long_name, long_number, leading_zero}
+use Rattle.tokens.specs.Words.{Small, Digit, Blank, NameByte, FirstByte, IsName, IsNumber, number_written, LineOf, Spells}
+use Rattle.tokens.specs.Splits.{LongestWord, Malformed, long_name, long_number, leading_zero}
 use Rattle.tokens.proofs.Lines.{same_line}
 
 -- a byte of no class
 abbrev pub Strange : ℕ → Type 0
 Strange b = (Small b → ⊥) × (Digit b → ⊥) × (Blank b → ⊥)
 
-pub begins_more : (P : ℕ → Type 0) (w rest : List ℕ) → Begins P w → Begins P (w ++ rest)
+pub begins_more : (P : ℕ → Type 0) (w rest : List ℕ) → FirstByte P w → FirstByte P (w ++ rest)
 begins_more P [] rest h = elim h [ ]
 begins_more P (b ∷ w) rest h = h
 
-pub begins_front : (P : ℕ → Type 0) (w rest : List ℕ) → 0 < length w → Begins P (w ++ rest) → Begins P w
+pub begins_front : (P : ℕ → Type 0) (w rest : List ℕ) → 0 < length w → FirstByte P (w ++ rest) → FirstByte P w
 begins_front P [] rest some h = absurd (omega arith)
 begins_front P (b ∷ w) rest some h = h
 
-pub begins_some : (P : ℕ → Type 0) (w : List ℕ) → Begins P w → 0 < length w
+pub begins_some : (P : ℕ → Type 0) (w : List ℕ) → FirstByte P w → 0 < length w
 begins_some P [] h = elim h [ ]
 begins_some P (b ∷ w) h = omega arith
 
-pub clash : (P Q : ℕ → Type 0) → ((b : ℕ) → P b → Q b → ⊥) → (w : List ℕ) → Begins P w → Begins Q w → ⊥
+pub clash : (P Q : ℕ → Type 0) → ((b : ℕ) → P b → Q b → ⊥) → (w : List ℕ) → FirstByte P w → FirstByte Q w → ⊥
 clash P Q apart [] p q = elim p [ ]
 clash P Q apart (b ∷ w) p q = apart b p q
 
@@ -32,14 +32,14 @@ pub small_digit : (b : ℕ) → Small b → Digit b → ⊥
 small_digit b s d = omega arith
 
 -- two fronts of one text begin alike
-fronts : (P Q : ℕ → Type 0) → ((b : ℕ) → P b → Q b → ⊥) → (w rest v tail : List ℕ) → w ++ rest ≡ v ++ tail → Begins P w → Begins Q v → ⊥
-fronts P Q apart w rest v tail e p q = clash P Q apart (v ++ tail) (subst (Begins P) e (begins_more P w rest p)) (begins_more Q v tail q)
+fronts : (P Q : ℕ → Type 0) → ((b : ℕ) → P b → Q b → ⊥) → (w rest v tail : List ℕ) → w ++ rest ≡ v ++ tail → FirstByte P w → FirstByte Q v → ⊥
+fronts P Q apart w rest v tail e p q = clash P Q apart (v ++ tail) (subst (FirstByte P) e (begins_more P w rest p)) (begins_more Q v tail q)
 
 -- a longest run is one only
-same_run : (P : ℕ → Type 0) (w rest v tail : List ℕ) → AllByRecursion P w → (Begins P rest → ⊥) → AllByRecursion P v → (Begins P tail → ⊥) → w ++ rest ≡ v ++ tail → w ≡ v
+same_run : (P : ℕ → Type 0) (w rest v tail : List ℕ) → AllByRecursion P w → (FirstByte P rest → ⊥) → AllByRecursion P v → (FirstByte P tail → ⊥) → w ++ rest ≡ v ++ tail → w ≡ v
 same_run P [] rest [] tail a n b m e = refl
-same_run P [] rest (y ∷ v) tail a n b m e = absurd (n (subst (Begins P) (sym e) b.0))
-same_run P (x ∷ w) rest [] tail a n b m e = absurd (m (subst (Begins P) e a.0))
+same_run P [] rest (y ∷ v) tail a n b m e = absurd (n (subst (FirstByte P) (sym e) b.0))
+same_run P (x ∷ w) rest [] tail a n b m e = absurd (m (subst (FirstByte P) e a.0))
 same_run P (x ∷ w) rest (y ∷ v) tail a n b m e =
     let first = head-eq_of_cons-eq e in
     let more = same_run P w rest v tail a.1 n b.1 m (tail-eq_of_cons-eq e) in
@@ -73,11 +73,11 @@ lead (b ∷ bs) =
 
 -- a token is a symbol, a name or a number
 pub data View (names : List (List ℕ)) (w : List ℕ) (t : Token) : Type 0 where
-  symbol : Begins Strange w → ((rest : List ℕ) → lead (w ++ rest) ≡ front w t) → View names w t
+  symbol : FirstByte Strange w → ((rest : List ℕ) → lead (w ++ rest) ≡ front w t) → View names w t
   name : (line : Option ℕ) → t ≡ Name line → IsName w → LineOf names w line → View names w t
-  number : t ≡ Number (decimal w) → IsNumber w → View names w t
+  number : t ≡ Number (number_written w) → IsNumber w → View names w t
 
-sign : (names : List (List ℕ)) (w v : List ℕ) (t : Token) → Begins Strange v → ((rest : List ℕ) → lead (v ++ rest) ≡ front v t) → w ≡ v → View names w t
+sign : (names : List (List ℕ)) (w v : List ℕ) (t : Token) → FirstByte Strange v → ((rest : List ℕ) → lead (v ++ rest) ≡ front v t) → w ≡ v → View names w t
 sign names w v t strange leads e = subst (λ u. View names u t) (sym e) (symbol strange leads)
 
 pub view : (names : List (List ℕ)) (w : List ℕ) (t : Token) → Spells names w t → View names w t
@@ -100,20 +100,20 @@ view names w (Number n) h = number (ap Number h.1) h.0
 
 -- a piece of a text: a symbol, or a longest run of name bytes or of digits
 pub data Piece (w rest : List ℕ) : Type 0 where
-  sign_piece : (t : Token) → Begins Strange w → ((rest : List ℕ) → lead (w ++ rest) ≡ front w t) → Piece w rest
-  name_piece : Begins Small w → AllByRecursion NameByte w → (Begins NameByte rest → ⊥) → Piece w rest
-  digit_piece : Begins Digit w → AllByRecursion Digit w → (Begins Digit rest → ⊥) → Piece w rest
+  sign_piece : (t : Token) → FirstByte Strange w → ((rest : List ℕ) → lead (w ++ rest) ≡ front w t) → Piece w rest
+  name_piece : FirstByte Small w → AllByRecursion NameByte w → (FirstByte NameByte rest → ⊥) → Piece w rest
+  digit_piece : FirstByte Digit w → AllByRecursion Digit w → (FirstByte Digit rest → ⊥) → Piece w rest
 
-pub word_piece : {names : List (List ℕ)} {w : List ℕ} {t : Token} → View names w t → (rest : List ℕ) → Longest w rest → Piece w rest
+pub word_piece : {names : List (List ℕ)} {w : List ℕ} {t : Token} → View names w t → (rest : List ℕ) → LongestWord w rest → Piece w rest
 word_piece {names} {w} {t} (symbol strange leads) rest long = sign_piece t strange leads
 word_piece (name line e n l) rest long = name_piece n.letter n.all (long.name n.letter)
 word_piece (number e n) rest long = digit_piece n.digit n.all (long.number n.digit)
 
-zero_digit : (w : List ℕ) → Begins (λ b. b ≡ 48) w → Begins Digit w
+zero_digit : (w : List ℕ) → FirstByte (λ b. b ≡ 48) w → FirstByte Digit w
 zero_digit [] e = elim e [ ]
 zero_digit (b ∷ w) e = (omega arith, omega arith)
 
-pub bad_piece : {w : List ℕ} → Malformed w → (rest : List ℕ) → Longest w rest → Piece w rest
+pub bad_piece : {w : List ℕ} → Malformed w → (rest : List ℕ) → LongestWord w rest → Piece w rest
 bad_piece (long_name b a l) rest long = name_piece b a (long.name b)
 bad_piece (long_number b a l) rest long = digit_piece b a (long.number b)
 bad_piece {w} (leading_zero b a l) rest long = digit_piece (zero_digit w b) a (long.number (zero_digit w b))

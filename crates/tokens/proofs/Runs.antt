@@ -7,18 +7,18 @@ use Rattle.std.proofs.lemmas.List.Sums.{prefix_len-le-length}
 use Rattle.std.proofs.lemmas.Bool.{both_ways}
 use Rattle.std.proofs.lemmas.Bool.Decides.{nat_tests}
 use Rattle.std.proofs.ByRecursion.{All-weaker}
-use Rattle.tokens.specs.Words.{Digit, Blank, NameByte, Begins}
+use Rattle.tokens.specs.Words.{Digit, Blank, NameByte, FirstByte}
 use Rattle.tokens.specs.Steps.{RunTo}
 
 module _ (P : ℕ → Type 0) (text : List ℕ) (i : ℕ) where
-  pub begins_at : i < length text → P (get_or text i 0) → Begins P (drop i text)
-  begins_at h p = subst (Begins P) (sym (drop_more text i 0 h)) p
+  pub begins_at : i < length text → P (get_or text i 0) → FirstByte P (drop i text)
+  begins_at h p = subst (FirstByte P) (sym (drop_more text i 0 h)) p
 
-  pub at_begins : i < length text → Begins P (drop i text) → P (get_or text i 0)
-  at_begins h b = subst (Begins P) (drop_more text i 0 h) b
+  pub at_begins : i < length text → FirstByte P (drop i text) → P (get_or text i 0)
+  at_begins h b = subst (FirstByte P) (drop_more text i 0 h) b
 
-  pub ends_at : length text ≤ i → Begins P (drop i text) → ⊥
-  ends_at h b = subst (Begins P) (drop_all i text h) b
+  pub ends_at : length text ≤ i → FirstByte P (drop i text) → ⊥
+  ends_at h b = subst (FirstByte P) (drop_all i text h) b
 
 -- the bytes in front that pass a test are a run
 module _ (p : ℕ → Bool) where
@@ -27,10 +27,10 @@ module _ (p : ℕ → Bool) where
   front_passes (b ∷ bs) =
       elim (p b) as (λ v. p b ≡ v → AllByRecursion (λ b. IsTrue (p b)) (take (cond v (1 + prefix_len p bs) 0) (b ∷ bs))) [ true ↦ λ e. rw one-add (e, front_passes bs) | false ↦ λ _. tt ] refl
 
-  front_ends : (bs : List ℕ) → Begins (λ b. IsTrue (p b)) (drop (prefix_len p bs) bs) → ⊥
+  front_ends : (bs : List ℕ) → FirstByte (λ b. IsTrue (p b)) (drop (prefix_len p bs) bs) → ⊥
   front_ends [] = λ h. h
   front_ends (b ∷ bs) =
-      elim (p b) as (λ v. p b ≡ v → Begins (λ b. IsTrue (p b)) (drop (cond v (1 + prefix_len p bs) 0) (b ∷ bs)) → ⊥) [ true ↦ λ _. rw one-add (front_ends bs) | false ↦ λ e h. both_ways _ e h ] refl
+      elim (p b) as (λ v. p b ≡ v → FirstByte (λ b. IsTrue (p b)) (drop (cond v (1 + prefix_len p bs) 0) (b ∷ bs)) → ⊥) [ true ↦ λ _. rw one-add (front_ends bs) | false ↦ λ e h. both_ways _ e h ] refl
 
   pub front_is_run : (text : List ℕ) (at n : ℕ) → at ≤ length text → n ≡ prefix_len p (drop at text) → RunTo (λ b. IsTrue (p b)) text at (at + n)
   front_is_run text at n within is =
@@ -47,7 +47,7 @@ pub run_of : (p : ℕ → Bool) (P : ℕ → Type 0) → ((b : ℕ) → Decides 
 run_of p P tests {text} {at} {end} run =
     record { on = run.on; within = run.within; all = All-weaker _ _ (λ b. (tests b).0) _ run.all; over = λ h. run.over (begins_each (λ b. (tests b).1) (drop end text) h) }
   where
-    begins_each : {P Q : ℕ → Type 0} → ((b : ℕ) → P b → Q b) → (w : List ℕ) → Begins P w → Begins Q w
+    begins_each : {P Q : ℕ → Type 0} → ((b : ℕ) → P b → Q b) → (w : List ℕ) → FirstByte P w → FirstByte Q w
     begins_each h [] = λ f. f
     begins_each h (b ∷ w) = h b
 

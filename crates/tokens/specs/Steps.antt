@@ -5,8 +5,8 @@ use Rattle.tokens.specs.declared.fault.TokenFault.{TokenFault}
 use Rattle.tokens.specs.declared.fault.TokenFault.TheVariants.{Malformed}
 use Rattle.tokens.specs.declared.lexer.Word.{Word}
 use Rattle.tokens.specs.declared.token.Token.{Token}
-use Rattle.tokens.specs.Words.{Begins, Spells}
-use Rattle.tokens.specs.Splits.{Longest, NoToken}
+use Rattle.tokens.specs.Words.{FirstByte, Spells}
+use Rattle.tokens.specs.Splits.{LongestWord, NoToken}
 
 -- a byte that is no token alone, and one that is none with `=` behind it
 abbrev pub NoSign : ℕ → Type 0
@@ -20,14 +20,14 @@ pub record RunTo (P : ℕ → Type 0) (text : List ℕ) (at end : ℕ) : Type 0 
   pub on : at ≤ end
   pub within : end ≤ length text
   pub all : AllByRecursion P (between at end text)
-  pub over : Begins P (drop end text) → ⊥
+  pub over : FirstByte P (drop end text) → ⊥
 
 -- the word from at on ends before end, and is this token
 pub record WordAt (names : List (List ℕ)) (text : List ℕ) (at : ℕ) (token : Token) (end : ℕ) : Type 0 where
   pub on : at < end
   pub within : end ≤ length text
   pub spells : Spells names (between at end text) token
-  pub longest : Longest (between at end text) (drop end text)
+  pub longest : LongestWord (between at end text) (drop end text)
 
 -- no token stands at this place, and the fault says so
 pub record FaultAt (names : List (List ℕ)) (text : List ℕ) (at : ℕ) (fault : TokenFault) : Type 0 where

@@ -19,27 +19,27 @@ abbrev pub NameByte : ℕ → Type 0
 NameByte b = Small b ⊎ Digit b
 
 -- the first byte is such a one
-abbrev pub Begins : (ℕ → Type 0) → List ℕ → Type 0
-Begins P [] = ⊥
-Begins P (b ∷ bs) = P b
+abbrev pub FirstByte : (ℕ → Type 0) → List ℕ → Type 0
+FirstByte P [] = ⊥
+FirstByte P (b ∷ bs) = P b
 
 -- a small letter and up to seven small letters and digits
 pub record IsName (w : List ℕ) : Type 0 where
-  pub letter : Begins Small w
+  pub letter : FirstByte Small w
   pub all : AllByRecursion NameByte w
   pub short : length w ≤ 8
 
 -- one to nine digits, of which the first is 0 only in 0 itself
 pub record IsNumber (w : List ℕ) : Type 0 where
-  pub digit : Begins Digit w
+  pub digit : FirstByte Digit w
   pub all : AllByRecursion Digit w
   pub short : length w ≤ 9
-  pub plain : Begins (λ b. b ≡ 48) w → length w ≡ 1
+  pub plain : FirstByte (λ b. b ≡ 48) w → length w ≡ 1
 
 -- the number that digits write in base ten
-abbrev pub decimal : List ℕ → ℕ
-decimal [] = 0
-decimal (d ∷ ds) = (d - 48) * 10 ^ length ds + decimal ds
+abbrev pub number_written : List ℕ → ℕ
+number_written [] = 0
+number_written (d ∷ ds) = (d - 48) * 10 ^ length ds + number_written ds
 
 -- digits alone, and at most nineteen of them, so that what they write fits 64 bits
 abbrev pub FewDigits : List ℕ → Type 0
@@ -74,4 +74,4 @@ Spells names w Until = w ≡ codes "U"
 Spells names w AtLeast = w ≡ codes ">="
 Spells names w AtMost = w ≡ codes "<="
 Spells names w (Name line) = IsName w × LineOf names w line
-Spells names w (Number n) = IsNumber w × (n ≡ decimal w)
+Spells names w (Number n) = IsNumber w × (n ≡ number_written w)

@@ -1,7 +1,7 @@
 // Splits a rule text into its tokens.
 ghost use Rattle.std.specs.Prelude.{◌≡◌, ℕ, ◌<◌, ◌≤◌, Bool, IsTrue, List, [], ◌∷◌, length, drop, Decides, MatchOption, MatchResult};
 ghost use Rattle.std.specs.Fn.{FnReturnsAt};
-ghost use Rattle.tokens.specs.Words.{Small, Digit, Blank, NameByte, Begins, LineOf, Spells};
+ghost use Rattle.tokens.specs.Words.{Small, Digit, Blank, NameByte, FirstByte, LineOf, Spells};
 ghost use Rattle.tokens.specs.Answers.{texts, Tokenized, Refused};
 ghost use Rattle.tokens.specs.Steps.{RunTo, NoSign, NoOrder, ReadAt};
 
@@ -107,7 +107,7 @@ fn well_formed(first: u8, digits: usize) -> bool
 impl Place<'_> {
     // The symbol that begins here, where neither a blank nor a name nor a number does.
     fn symbol(&self) -> Result<Word, TokenFault>
-        requires { (Begins Blank (drop self.now.at self.now.text.now) → ⊥) × (Begins Small (drop self.now.at self.now.text.now) → ⊥) × (Begins Digit (drop self.now.at self.now.text.now) → ⊥) }
+        requires { (FirstByte Blank (drop self.now.at self.now.text.now) → ⊥) × (FirstByte Small (drop self.now.at self.now.text.now) → ⊥) × (FirstByte Digit (drop self.now.at self.now.text.now) → ⊥) }
         ensures { (names : List (List ℕ)) → ReadAt names self.now.text.now self.now.at result }
     {
         let at = self.at;
@@ -124,7 +124,7 @@ impl Place<'_> {
 
     // The name that begins here.
     fn name(&self, names: &[&[u8]]) -> Result<Word, TokenFault>
-        requires { Begins Small (drop self.now.at self.now.text.now) }
+        requires { FirstByte Small (drop self.now.at self.now.text.now) }
         ensures { ReadAt (texts names.now) self.now.text.now self.now.at result }
     {
         let at = self.at;
@@ -138,7 +138,7 @@ impl Place<'_> {
 
     // The number that begins here.
     fn number(&self) -> Result<Word, TokenFault>
-        requires { Begins Digit (drop self.now.at self.now.text.now) }
+        requires { FirstByte Digit (drop self.now.at self.now.text.now) }
         ensures { (names : List (List ℕ)) → ReadAt names self.now.text.now self.now.at result }
     {
         let at = self.at;
@@ -154,7 +154,7 @@ impl Place<'_> {
 
     // The word that begins here, where no blank stands.
     fn word(&self, names: &[&[u8]]) -> Result<Word, TokenFault>
-        requires { Begins Blank (drop self.now.at self.now.text.now) → ⊥ }
+        requires { FirstByte Blank (drop self.now.at self.now.text.now) → ⊥ }
         ensures { ReadAt (texts names.now) self.now.text.now self.now.at result }
     {
         let first = self.text[self.at];

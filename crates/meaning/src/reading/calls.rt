@@ -1,14 +1,14 @@
 // Making and comparing readings.
 ghost use Rattle.std.specs.Prelude.{◌≡◌};
 ghost use Rattle.grades.specs.Kinds.{Tells};
-ghost use Rattle.meaning.specs.Readings.{widest, Reads, Within, Exact};
+ghost use Rattle.meaning.specs.Readings.{widest, ReadingWith, Within, Exact};
 
 use crate::reading::Reading;
 
 impl Reading {
     /// The reading with these ends; none where they are out of bounds or in the wrong order.
     pub fn new(lower: i32, upper: i32) -> Option<Reading>
-        ensures { Reads lower upper result }
+        ensures { ReadingWith lower upper result }
     {
         if lower < -500_000 || upper > 500_000 || lower > upper {
             None

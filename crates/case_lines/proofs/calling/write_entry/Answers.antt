@@ -2,7 +2,7 @@ use Rattle.std.proofs.Common.{ℕ, [], Ok, Err, string_bytes, sym, refl, ap, app
 use Rattle.jobs.specs.Faults.{enter_reply}
 use Rattle.jobs.specs.Jobs.{state_of}
 use Rattle.case_lines.specs.Lines.{refused_line}
-use Rattle.case_lines.specs.Calls.{Enters}
+use Rattle.case_lines.specs.Calls.{CarriesEntry}
 use Rattle.case_lines.proofs.Adding.{some}
 use Rattle.case_lines.proofs.Entered.{entered}
 use Rattle.case_lines.proofs.Left.{entry_carries}
@@ -20,7 +20,7 @@ returns-in-Err-clause-prints c =
     let e = c.args.entry in
     let low : SFits w32 e.lower = search rules in
     let high : SFits w32 e.upper = search rules in
-    some (Enters c.args.field e (state_of c.args.job.now) (state_of c.enter-reply.new.self)) (string_bytes c.args.text.now) (string_bytes c.write_refused.new.text) c.write_refused.result (refused_line c.number.result c.args.field)
+    some (CarriesEntry c.args.field e (state_of c.args.job.now) (state_of c.enter-reply.new.self)) (string_bytes c.args.text.now) (string_bytes c.write_refused.new.text) c.write_refused.result (refused_line c.number.result c.args.field)
     (entered c.args.field e (state_of c.args.job.now) (state_of c.enter-reply.new.self) (to_z w32 (of_z w32 e.lower)) (to_z w32 (of_z w32 e.upper)) (enter_reply (Err c.in-Err.fault)) _ (to_z-of_z low) (to_z-of_z high) c.in-Err.ensures.turn (ap (λ (n : ℕ). refused_line n c.args.field) c.number.ensures))
     c.write_refused.ensures
 

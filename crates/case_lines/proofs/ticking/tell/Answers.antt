@@ -4,7 +4,7 @@ use Rattle.grades.specs.Truths.{truths}
 use Rattle.grades.specs.Worth.{worth, truth_value}
 use Rattle.rules.specs.Texts.{table_of}
 use Rattle.meaning.specs.Outcomes.{outcome_at}
-use Rattle.runs.specs.Calls.{Marking}
+use Rattle.runs.specs.Calls.{MarkedVerdict}
 use Rattle.judge.specs.Faults.{mark_number}
 use Rattle.jobs.specs.Jobs.{state_of}
 use Rattle.case_lines.specs.Lines.{verdict_line}
@@ -31,7 +31,7 @@ returns-in_err-marking-clause-told c =
 
 pub returns-clause-told : goal.returns-clause-told
 returns-clause-told c =
-    let marked : Marking truths = record { verdict = worth truths truth_value c.in_ok-marking.marking.verdict; marks = take c.in_ok-marking.marking.marks c.mark.new.marks } in
+    let marked : MarkedVerdict truths = record { verdict = worth truths truth_value c.in_ok-marking.marking.verdict; marks = take c.in_ok-marking.marking.marks c.mark.new.marks } in
     let turn = recounted truths (state_of c.args.job.now) (table_of c.args.rule.now) c.args.tick (length c.args.cells.now.wants.now) (length c.args.cells.now.marks.now) (Ok marked) c.judge.auto.cells c.in_ok-marking.ensures.turn in
     let written = c.in_ok-marking.ensures.cells.2.1 in
     let line = λ (n : ℕ). verdict_line c.args.tick (outcome_at (worth truths truth_value c.in_ok-verdict.verdict)) c.in_ok-margin.margin.lower.number c.in_ok-margin.margin.upper.number n in

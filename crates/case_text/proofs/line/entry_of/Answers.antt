@@ -1,5 +1,5 @@
 use Rattle.std.proofs.Common.{ℤ, sym, subst, to_z-of_z, w32, SFits, rules}
-use Rattle.case_text.specs.Words.{Reading}
+use Rattle.case_text.specs.Words.{WritesReading}
 use Rattle.case_text.proofs.Fives.{its_lower, its_upper}
 use Rattle.case_text.proofs.line.entry_of.Goals as goal
 
@@ -24,6 +24,6 @@ returns c =
       line_is = c.in_ok-line.ensures;
       from_is = c.in_ok-from.ensures;
       to_is = c.in_ok-to.ensures;
-      lower_is = subst (λ (z : ℤ). Reading five.low.now z) (sym (to_z-of_z low)) c.in_ok-lower.ensures;
-      upper_is = subst (λ (z : ℤ). Reading five.high.now z) (sym (to_z-of_z high)) c.in_ok-upper.ensures;
+      lower_is = subst (λ (z : ℤ). WritesReading five.low.now z) (sym (to_z-of_z low)) c.in_ok-lower.ensures;
+      upper_is = subst (λ (z : ℤ). WritesReading five.high.now z) (sym (to_z-of_z high)) c.in_ok-upper.ensures;
     }

@@ -1,5 +1,5 @@
 use Rattle.std.proofs.Common.{◌+◌, ◌<◌, true, false, Some, None, sym, refl, subst}
-use Rattle.judge.specs.Yes.{First}
+use Rattle.judge.specs.Yes.{FirstFrom}
 use Rattle.judge.proofs.Knowns.{clip_later}
 use Rattle.judge.proofs.Walks.{held_steady, walked_first, held_later, held_never, held_cut, walked_more, held_ahead}
 use Rattle.judge.proofs.child.held_from.Goals as goal
@@ -11,7 +11,7 @@ loop-p-init g c =
     let goal = g.C.YesNo.f c.args.need.now in
     let w = c.args.window in
     let p = c.first-p.result in
-    let f = subst (λ n. First asks true c.args.s n p) c.max.ensures c.first-p.ensures in
+    let f = subst (λ n. FirstFrom asks true c.args.s n p) c.max.ensures c.first-p.ensures in
     walked_first asks dead goal w.from w.to w.limit c.args.t c.args.s c.requires.clear p f
 
 pub loop-p-preserved : goal.loop-p-preserved

@@ -1,5 +1,5 @@
 use Rattle.std.proofs.Common.{◌≡◌, ◌+◌, ◌-◌, max, true, false, Some, None, sym, ◌∙◌, subst, arith}
-use Rattle.judge.specs.Yes.{First, Clear}
+use Rattle.judge.specs.Yes.{FirstFrom, Clear}
 use Rattle.pieces.proofs.Steadies.{before_self}
 use Rattle.judge.proofs.Walks.{seen_steady, seen_dead, seen_never, seen_later, seen_found}
 use Rattle.judge.proofs.child.right_at.Goals as goal
@@ -24,7 +24,7 @@ returns-then-p-window g c =
     let back : c.saturating_sub.result ≡ u - w.to = omega arith in
     let top : c.max.result ≡ max w.limit s = omega arith in
     let cl = subst (λ n. Clear dead n u s) back c.clear_from-s.ensures in
-    let f = subst (λ n. First asks true s n p) top c.first-p.ensures in
+    let f = subst (λ n. FirstFrom asks true s n p) top c.first-p.ensures in
     seen_steady asks dead w.from w.to w.limit u false None (seen_never asks dead w.from w.to w.limit u s cl p f c.if-p-window.true)
 
 pub returns-then-t-p : goal.returns-then-t-p
@@ -38,7 +38,7 @@ returns-then-t-p g c =
     let back : c.saturating_sub.result ≡ u - w.to = omega arith in
     let top : c.max.result ≡ max w.limit s = omega arith in
     let cl = subst (λ n. Clear dead n u s) back c.clear_from-s.ensures in
-    let f = subst (λ n. First asks true s n p) top c.first-p.ensures in
+    let f = subst (λ n. FirstFrom asks true s n p) top c.first-p.ensures in
     seen_steady asks dead w.from w.to w.limit u false (Some (p + w.from)) (seen_later asks dead w.from w.to w.limit u s cl p f c.if-t-p.true)
 
 pub returns : goal.returns
@@ -56,6 +56,6 @@ returns g c =
     let back : c.saturating_sub.result ≡ u - w.to = omega arith in
     let top : c.max.result ≡ max w.limit s = omega arith in
     let cl = subst (λ n. Clear dead n u s) back c.clear_from-s.ensures in
-    let f = subst (λ n. First asks true s n p) top c.first-p.ensures in
+    let f = subst (λ n. FirstFrom asks true s n p) top c.first-p.ensures in
     seen_steady asks dead w.from w.to w.limit u true (Some z)
     (seen_found asks dead w.from w.to w.limit u s cl p f here w.ok c.if-p-window.false c.if-t-p.false q z c.step-after.result.0 c.step-after.result.1 c.step-after.ensures c.clipped-q.ensures c.first-end.ensures)

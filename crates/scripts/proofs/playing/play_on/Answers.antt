@@ -1,5 +1,5 @@
 use Rattle.std.proofs.Common.{refl, to_z-of_z, w32, SFits, rules}
-use Rattle.runs.specs.Calls.{Table}
+use Rattle.runs.specs.Calls.{RuleRows}
 use Rattle.rules.specs.Texts.{table_of}
 use Rattle.jobs.specs.Faults.{enter_reply}
 use Rattle.jobs.specs.Jobs.{state_of}
@@ -31,22 +31,22 @@ returns-in-Seal-clause-plays c = (_, record { is = is_seal c.in-Seal.is refl ref
 
 pub returns-in-JudgeTruth-clause-plays : goal.returns-in-JudgeTruth-clause-plays
 returns-in-JudgeTruth-clause-plays c =
-    let a : Table = record { rows = table_of c.in-JudgeTruth.rule.now; sound = c.judge_within.ensures.sound } in
+    let a : RuleRows = record { rows = table_of c.in-JudgeTruth.rule.now; sound = c.judge_within.ensures.sound } in
     (_, record { is = is_judge_truth _ _ _ _ a c.in-JudgeTruth.is refl refl refl; turn = (c.judge_within.ensures.turn, refl); leaves = judge_truth_leaves _ _ _ _ c.in-JudgeTruth.is refl refl c.judge_within.ensures.leaves refl })
 
 pub returns-in-JudgeMargin-clause-plays : goal.returns-in-JudgeMargin-clause-plays
 returns-in-JudgeMargin-clause-plays c =
-    let a : Table = record { rows = table_of c.in-JudgeMargin.rule.now; sound = c.judge_within-in-JudgeMargin.ensures.sound } in
+    let a : RuleRows = record { rows = table_of c.in-JudgeMargin.rule.now; sound = c.judge_within-in-JudgeMargin.ensures.sound } in
     (_, record { is = is_judge_margin _ _ _ _ a c.in-JudgeMargin.is refl refl refl; turn = (c.judge_within-in-JudgeMargin.ensures.turn, refl); leaves = judge_margin_leaves _ _ _ _ c.in-JudgeMargin.is refl refl c.judge_within-in-JudgeMargin.ensures.leaves refl })
 
 pub returns-in-MarkTruth-clause-plays : goal.returns-in-MarkTruth-clause-plays
 returns-in-MarkTruth-clause-plays c =
-    let a : Table = record { rows = table_of c.in-MarkTruth.rule.now; sound = c.mark_within.ensures.sound } in
+    let a : RuleRows = record { rows = table_of c.in-MarkTruth.rule.now; sound = c.mark_within.ensures.sound } in
     (_, record { is = is_mark_truth _ _ _ _ a c.in-MarkTruth.is refl refl refl; turn = (c.mark_within.ensures.turn, refl); leaves = mark_truth_leaves _ _ _ _ c.in-MarkTruth.is refl refl c.mark_within.ensures.leaves refl })
 
 pub returns-in-MarkMargin-clause-plays : goal.returns-in-MarkMargin-clause-plays
 returns-in-MarkMargin-clause-plays c =
-    let a : Table = record { rows = table_of c.in-MarkMargin.rule.now; sound = c.mark_within-in-MarkMargin.ensures.sound } in
+    let a : RuleRows = record { rows = table_of c.in-MarkMargin.rule.now; sound = c.mark_within-in-MarkMargin.ensures.sound } in
     (_, record { is = is_mark_margin _ _ _ _ a c.in-MarkMargin.is refl refl refl; turn = (c.mark_within-in-MarkMargin.ensures.turn, refl); leaves = mark_margin_leaves _ _ _ _ c.in-MarkMargin.is refl refl c.mark_within-in-MarkMargin.ensures.leaves refl })
 
 pub returns-in-MarkTruth-clause-fits : goal.returns-in-MarkTruth-clause-fits
