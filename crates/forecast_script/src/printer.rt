@@ -1,11 +1,8 @@
 // Printing replies as they come.
-use grades::grade::Grade;
 use grades::margin::Margin;
 use grades::range::Range;
 use grades::truth::Truth;
 use jobs::fault::{EnterFault, NoSuchLine};
-use judge::fault::{JudgeFault, MarkFault};
-use judge::marking::Marking;
 use lent::cells::Cells;
 use meaning::mark::Mark;
 use pieces::piece::Piece;

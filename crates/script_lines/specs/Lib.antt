@@ -1,3 +1,4 @@
 pub mod Keywords
 pub mod Arguments
 pub mod Makes
+pub mod Faults

@@ -1,4 +1,6 @@
 // Reading a script line by line.
+ghost use Rattle.std.specs.Prelude.{◌≤◌};
+
 use crate::line::{Ask, ask_of};
 use crate::script::Script;
 use crate::step::{GradeKind, Step};
@@ -119,7 +121,9 @@ impl<'t> Reader<'t> {
     }
 
     // What was read.
-    pub(crate) fn script(self) -> Script {
+    pub(crate) fn script(self) -> Script
+        ensures { result.lines ≤ 16 }
+    {
         Script {
             lines: self.names.len(),
             rules: self.rules,

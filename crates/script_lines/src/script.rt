@@ -1,5 +1,6 @@
 // Scripts as a whole.
-ghost use Rattle.std.specs.Prelude.{IfOk};
+ghost use Rattle.std.specs.Prelude.{◌≤◌, IfOk, MatchResult};
+ghost use Rattle.script_lines.specs.Faults.{CountsFromOne};
 ghost use Rattle.script_lines.specs.Makes.{AreCalls};
 
 use crate::fault::ScriptFault;
@@ -21,7 +22,9 @@ pub struct Script {
 
 impl Script {
     /// Reads a text line by line, or names the first line that is none of a script's.
-    pub fn read(text: &[u8], heap: Global) -> Result<Script, ScriptFault> {
+    pub fn read(text: &[u8], heap: Global) -> Result<Script, ScriptFault>
+        ensures { MatchResult result (λ script. script.lines ≤ 16) CountsFromOne }
+    {
         let mut reader = Reader::new(heap);
         for (index, line) in text.split(|byte| *byte == LINE_END).enumerate() {
             if !reader.take(line)? {

@@ -41,7 +41,7 @@ marks_front K value (Err f) xs ys h = refl
 -- there are as many mark cells as marks
 pub marks_fit : (K : Kind) {G : Type 0} (value : G → K.Value) (rows : List Row) (x : Readings) (t : ℕ) (cells cells' : List (Piece (Range G))) (wants wants' : List (Piece Bool)) (marks marks' : List Mark) (r : Result (Marking G) MarkFault) {n : ℕ} → length marks ≤ n →
     MarkedCells K value rows x t cells cells' wants wants' marks marks' r → IfOk r (λ m. m.marks ≤ n)
-marks_fit K value rows x t cells cells' wants wants' marks marks' (Ok m) few h = let w = h.1.1.1 in omega (arith, w.1, w.2.fits, few)
+marks_fit K value rows x t cells cells' wants wants' marks marks' (Ok m) few h = let w = h.2.1 in omega (arith, w.1, w.2.fits, few)
 marks_fit K value rows x t cells cells' wants wants' marks marks' (Err f) few h = tt
 
 pub truth_marks : (r : Result (Marking Truth) MarkFault) {n : ℕ} → IfOk r (λ m. m.marks ≤ n) → marks_in (MarkedTruth r) ≤ n

@@ -1,5 +1,5 @@
 // Judging and marking with the first of the lent cells.
-ghost use Rattle.std.specs.Prelude.{◌≡◌, ◌≤◌, min, length, IfOk};
+ghost use Rattle.std.specs.Prelude.{◌≤◌, min, length, IfOk};
 ghost use Rattle.rules.specs.Rows.{Sound};
 ghost use Rattle.rules.specs.Texts.{table_of};
 ghost use Rattle.runs.specs.Calls.{JudgeTurn, MarkTurn};
