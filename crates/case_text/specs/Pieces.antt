@@ -1,6 +1,6 @@
 -- The pieces of a text: what stands between the bytes of one kind, as lines between line ends and words between spaces.
-use Rattle.std.specs.Prelude.{◌≡◌, ℕ, List, ◌∷◌, ◌++◌, ◌==◌, ◌≢◌}
-use Rattle.std.specs.List.{AllByRecursion, slice_split}
+use Rattle.std.specs.Prelude.{◌≡◌, ℕ, List, ◌∷◌, ◌++◌, ◌==◌}
+use Rattle.std.specs.List.{slice_split}
 use Rattle.tokens.specs.Bytes.{Without}
 
 -- each c ends a piece, and begins another; a text with no c is one piece
