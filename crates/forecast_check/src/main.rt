@@ -7,7 +7,7 @@ ghost use Rattle.case_lines.specs.Listings.{Listing, lent_cells};
 
 use case_lines::cells::{MARKS, PIECES, ROWS, WANTS};
 use case_lines::listing::list_case;
-use cases::stepping::CASE_BYTES;
+use cases::reader::CASE_BYTES;
 use lent::blank::{BLANK_MARK, BLANK_WANT, blank_piece, blank_row};
 use lent::cells::Cells;
 use std::alloc::{AllocError, Global};
