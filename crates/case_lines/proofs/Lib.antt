@@ -9,3 +9,6 @@ pub mod Left
 pub mod ListingRuns
 pub mod SomeListing
 pub mod OneLeaving
+pub mod Lined
+pub mod Tolds
+pub mod Steps

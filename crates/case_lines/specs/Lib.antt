@@ -5,3 +5,6 @@ pub mod Listings
 pub mod Leaves
 pub mod Runs
 pub mod Laws
+pub mod LineTexts
+pub mod PrintedTexts
+pub mod Rests

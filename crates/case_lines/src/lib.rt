@@ -2,11 +2,17 @@
 #![tactic(auto)]
 
 mod calling;
+mod carrying;
 pub mod cells;
 mod fault;
+pub mod field_lister;
 pub mod laws;
 pub mod leaving;
+pub mod line;
 pub mod lines;
+pub mod lister;
 pub mod listing;
+pub mod opening;
+mod printed;
 mod ticking;
 mod writing;
