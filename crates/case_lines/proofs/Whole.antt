@@ -50,3 +50,11 @@ listed_only lent case text o sized opens (too_long e p q) = absurd (sized_one ca
 listed_only lent case text o sized opens (no_heading e p g q) = absurd (heading_apart o e (one_opening 1 [] case (Ok o) (Err e) opens g))
 listed_only lent case text o sized opens (listed i p g l) =
     subst (λ (x : OpenedCase). ListsFields lent.cells x.rows x.next (opened (line_count x.lines lent.pieces)) x.rest text) (same_heading i o (one_opening 1 [] case (Ok i) (Ok o) g opens)) l
+
+-- and what the fields behind such a heading print is a listing
+module _ (lent : LentCells) (case : List ℕ) (o : OpenedCase) (sized : Sized case (Ok tt)) (opens : Opens 1 [] case (Ok o)) (s : State) (is : s ≡ opened (line_count o.lines lent.pieces)) where
+  pub begun_lists : (text more : List ℕ) → ListsFields lent.cells o.rows o.next s o.rest more → text ≡ more → Listing lent case text
+  begun_lists text more l e = listed o sized opens (subst (λ (v : List ℕ). ListsFields lent.cells o.rows o.next (opened (line_count o.lines lent.pieces)) o.rest v) (sym e) (subst (λ (z : State). ListsFields lent.cells o.rows o.next z o.rest more) is l))
+
+  pub lists_begun : (text : List ℕ) → Listing lent case text → (more : List ℕ) × ListsFields lent.cells o.rows o.next s o.rest more × (text ≡ more)
+  lists_begun text l = (text, subst (λ (z : State). ListsFields lent.cells o.rows o.next z o.rest text) (sym is) (listed_only lent case text o sized opens l), refl)

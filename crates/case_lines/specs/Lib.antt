@@ -8,3 +8,5 @@ pub mod Laws
 pub mod LineTexts
 pub mod PrintedTexts
 pub mod Rests
+pub mod Fronts
+pub mod Buffers

@@ -1,6 +1,7 @@
 // The listing of a case: its fields carried out in turn on a job, and the lines that each prints.
 #![tactic(auto)]
 
+mod buffer;
 mod calling;
 mod carrying;
 pub mod cells;
@@ -13,6 +14,8 @@ pub mod lines;
 pub mod lister;
 pub mod listing;
 pub mod opening;
+pub mod output;
 mod printed;
+mod sink;
 mod ticking;
 mod writing;
