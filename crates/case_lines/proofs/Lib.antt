@@ -15,3 +15,4 @@ pub mod Steps
 pub mod Sunk
 pub mod Resting
 pub mod OnOks
+pub mod EachListing
