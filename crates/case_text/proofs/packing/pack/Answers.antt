@@ -1,4 +1,4 @@
-use Rattle.std.proofs.Common.{◌+◌, length, eqb, ap, arith, rules, tests}
+use Rattle.std.proofs.Common.{◌+◌, false, length, eqb, ap, arith, rules, tests}
 use Rattle.std.proofs.lemmas.List.{length_push}
 use Rattle.std.proofs.lemmas.List.FromFn.{length-enumerate_from}
 use Rattle.std.proofs.lemmas.Result.{err_from_is_err_and}
@@ -11,7 +11,7 @@ use Rattle.case_text.proofs.Growing.{none_held, next_line, gone_on, ended, stopp
 use Rattle.case_text.proofs.packing.pack.Goals as goal
 
 pub loop-index-init : goal.loop-index-init
-loop-index-init c = none_held (ap texts c.new-names.ensures.items) c.new-case.ensures.items
+loop-index-init c = none_held (λ i. record { names = texts (c.new.ensures i); ruled = false }) c.new-case.ensures.items
 
 pub loop-index-preserved : goal.loop-index-preserved
 loop-index-preserved c =

@@ -1,20 +1,30 @@
-use Rattle.std.proofs.Common.{ℕ, List, refl, ap, subst}
+use Rattle.std.proofs.Common.{ℕ, List, sym, refl, ap, subst}
 use Rattle.std.proofs.lemmas.Bool.{both_ways}
 use Rattle.tokens.specs.Answers.{texts}
 use Rattle.cases.specs.Contents.{item_of}
-use Rattle.case_text.specs.Sayings.{SaysNone, LineSays}
-use Rattle.case_text.specs.Parts.{took}
+use Rattle.case_text.specs.Sayings.{LineSays}
+use Rattle.case_text.specs.Parts.{foregone, took}
 use Rattle.case_text.proofs.Keywords.{fits_said}
+use Rattle.case_text.proofs.OneAnswer.{misplaced}
 use Rattle.case_text.proofs.packing.take_line.Goals as goal
 
 pub put-requires : goal.put-requires
-put-requires c = fits_said _ _ _ c.in-Some.ensures
+put-requires c = fits_said (foregone c.args.before.now) c.args.line.now (item_of c.in-Some.content) (subst (λ (v : List (List ℕ)). LineSays v c.args.line.now (item_of c.in-Some.content)) (ap texts c.as_slice.ensures.value) c.in-Some.ensures) (c.if-not-lets.ensures.0 refl)
 
 pub returns-in_default : goal.returns-in_default
 returns-in_default c = (
   record {
     loud = λ s. both_ways _ c.if-is_silent.false (c.is_silent.ensures.1 s);
-    none = subst (λ (v : List (List ℕ)). SaysNone v c.args.line.now) (ap texts c.as_slice.ensures.value) c.in_default.ensures;
+    none = λ i s. c.in_default.ensures i (subst (λ (v : List (List ℕ)). LineSays v c.args.line.now i) (ap texts (sym c.as_slice.ensures.value)) s.says);
+  },
+  refl,
+)
+
+pub returns-then-not-lets : goal.returns-then-not-lets
+returns-then-not-lets c = (
+  record {
+    loud = λ s. both_ways _ c.if-is_silent.false (c.is_silent.ensures.1 s);
+    none = misplaced (foregone c.args.before.now) c.args.line.now (item_of c.in-Some.content) (subst (λ (v : List (List ℕ)). LineSays v c.args.line.now (item_of c.in-Some.content)) (ap texts c.as_slice.ensures.value) c.in-Some.ensures) (λ m. both_ways _ refl (c.if-not-lets.ensures.1 m));
   },
   refl,
 )
@@ -24,7 +34,7 @@ returns c =
     took
     (item_of c.in-Some.content)
     (record {
-      says = subst (λ (v : List (List ℕ)). LineSays v c.args.line.now (item_of c.in-Some.content)) (ap texts c.as_slice.ensures.value) c.in-Some.ensures;
-      kept = c.in_ok-keep.ensures;
+      speaks = record { says = subst (λ (v : List (List ℕ)). LineSays v c.args.line.now (item_of c.in-Some.content)) (ap texts c.as_slice.ensures.value) c.in-Some.ensures; place = c.if-not-lets.ensures.0 refl };
+      kept = c.keep.ensures;
       adds = c.in_ok-put.ensures;
     })
