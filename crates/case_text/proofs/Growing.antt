@@ -1,19 +1,19 @@
 -- Line by line: what was said so far, and the fields that say it.
 use Rattle.std.proofs.Common.{◌≡◌, ℕ, ◌+◌, ◌/◌, ◌%◌, ◌<◌, ◌≤◌, List, [], ◌∷◌, ◌++◌, length, get_or, take, drop, sym, refl, ap, ◌∙◌, subst, arith}
 use Rattle.std.specs.List.{enumerate_from}
-use Rattle.std.proofs.lemmas.List.{append-nil, append_assoc, take-append-drop, drop_more, take_more, take_all, length-take-le}
+use Rattle.std.proofs.lemmas.List.{length-append, append-nil, append_assoc, take-append-drop, drop_more, take_more, take_all, length-take-le}
 use Rattle.std.proofs.lemmas.List.FromFn.{length-enumerate_from, get_or-enumerate_from}
 use Rattle.cases.specs.Fields.{Leads}
 use Rattle.cases.specs.Contents.{Item, Says}
+use Rattle.cases.specs.Contents as says
 use Rattle.cases.specs.Laws.{packed}
-use Rattle.case_text.specs.declared.fault.PackFault.{PackFault}
-use Rattle.case_text.specs.declared.fault.PackFault.TheVariants.{BadLine, NoMemory}
+use Rattle.case_text.specs.declared.fault.BadLine.{BadLine}
 use Rattle.case_text.specs.Pieces.{lines_of}
-use Rattle.case_text.specs.Sayings.{Foregone, and_then, and_all, at_first, Speaks, Bad, LinesSay}
+use Rattle.case_text.specs.Sayings.{Foregone, field_size, and_then, and_all, at_first, Speaks, Bad, LinesSay}
 use Rattle.case_text.specs.Sayings as say
-use Rattle.case_text.specs.Packs.{ReadsBack, Packed, StopsAtLine, Faulted}
+use Rattle.case_text.specs.Packs.{ReadsBack, Packed, StopsAtLine}
 use Rattle.case_text.specs.Packs as back
-use Rattle.case_text.specs.Parts.{LineTaken, passed, took, LineRefused}
+use Rattle.case_text.specs.Parts.{LineTaken, passed, took, LineRefused, AddsField}
 
 -- lines behind lines
 say_more : {g : Foregone} {lines more : List (List ℕ)} {items rest : List Item} → LinesSay g lines items → LinesSay (and_all g items) more rest → LinesSay g (lines ++ more) (items ++ rest)
@@ -62,9 +62,10 @@ pub record Held (before : List (List ℕ)) (g : Foregone) (bytes : List ℕ) : T
   pub said : LinesSay at_first before items
   pub kept : g ≡ and_all at_first items
   pub back : ReadsBack bytes items
+  pub short : g.size ≤ 16384
 
 pub none_held : {g : Foregone} {bytes : List ℕ} → g ≡ at_first → bytes ≡ [] → Held [] g bytes
-none_held e f = record { items = []; said = say.nothing refl refl; kept = e; back = back.nothing f refl }
+none_held e f = record { items = []; said = say.nothing refl refl; kept = e; back = back.nothing f refl; short = omega (arith, ap (λ (v : Foregone). v.size) e) }
 
 pub one_more : {before : List (List ℕ)} {g after : Foregone} {bytes line more : List ℕ} → Held before g bytes → LineTaken g bytes line after more → Held (before ++ (line ∷ [])) after more
 one_more {before} {g} {after} {bytes} {line} {more} h (passed s e f) = record {
@@ -72,12 +73,14 @@ one_more {before} {g} {after} {bytes} {line} {more} h (passed s e f) = record {
   said = subst (LinesSay at_first (before ++ (line ∷ []))) (append-nil h.items) (say_more h.said (say.silent refl s (say.nothing refl refl)));
   kept = e ∙ h.kept;
   back = subst (λ (v : List ℕ). ReadsBack v h.items) (sym f) h.back;
+  short = subst (λ (v : Foregone). v.size ≤ 16384) (sym e) h.short;
 }
 one_more {before} {g} {after} {bytes} {line} {more} h (took i t) = record {
   items = h.items ++ (i ∷ []);
   said = say_more h.said (say.item refl (subst (λ (v : Foregone). Speaks v line i) h.kept t.speaks) refl (say.nothing refl refl));
   kept = t.kept ∙ ap (λ (v : Foregone). and_then v i) h.kept ∙ sym (and_more at_first h.items i);
   back = subst (λ (v : List ℕ). ReadsBack v (h.items ++ (i ∷ []))) (sym t.adds.put) (back_more h.back (back_one t.adds.tag t.adds.body i t.adds.says));
+  short = subst (λ (v : Foregone). v.size ≤ 16384) (sym t.kept) t.speaks.place.1;
 }
 
 -- the line of this number is the next
@@ -91,11 +94,11 @@ pub gone_on : (lines : List (List ℕ)) (n : ℕ) (line : List ℕ) {g after : F
 gone_on lines n line {g} {after} {bytes} {grown} there is h t =
     subst (λ (v : List (List ℕ)). Held v after grown) (ap (λ (l : List ℕ). take n lines ++ (l ∷ [])) is ∙ sym (take_more lines n line there)) (one_more h t)
 
-pub ended : (text : List ℕ) (n : ℕ) {g : Foregone} {bytes : List ℕ} → length (lines_of text) ≤ n → Held (take n (lines_of text)) g bytes → Packed text bytes
-ended text n all h = record { items = h.items; said = subst (λ (v : List (List ℕ)). LinesSay at_first v h.items) (take_all n (lines_of text) all) h.said; back = h.back }
+pub ended : (text : List ℕ) (n : ℕ) {g : Foregone} {bytes : List ℕ} → length (lines_of text) ≤ n → g.size ≡ length bytes → Held (take n (lines_of text)) g bytes → Packed text bytes
+ended text n all size h = record { items = h.items; said = subst (λ (v : List (List ℕ)). LinesSay at_first v h.items) (take_all n (lines_of text) all) h.said; back = h.back; short = omega (arith, size, h.short) }
 
-pub stopped : (f : PackFault) (text : List ℕ) (n number : ℕ) (line : List ℕ) {g : Foregone} {bytes : List ℕ} → n < length (lines_of text) → line ≡ get_or (lines_of text) n line → number ≡ n + 1 → Held (take n (lines_of text)) g bytes → LineRefused g line number f → Faulted text f
-stopped (BadLine m) text n number line there is count h bad =
+pub stopped : (f : BadLine) (text : List ℕ) (n number : ℕ) (line : List ℕ) {g : Foregone} {bytes : List ℕ} → n < length (lines_of text) → line ≡ get_or (lines_of text) n line → number ≡ n + 1 → Held (take n (lines_of text)) g bytes → LineRefused g line number f → StopsAtLine text f.number
+stopped f text n number line there is count h bad =
     let lines = lines_of text in
     record {
       before = take n lines;
@@ -107,4 +110,13 @@ stopped (BadLine m) text n number line there is count h bad =
       said = h.said;
       bad = subst (λ (v : Foregone). Bad v line) h.kept bad.0;
     }
-stopped NoMemory text n number line there is count h bad = tt
+
+-- a field more has the bytes that its item says
+says_size : (tag : ℕ) (body : List ℕ) (i : Item) → Says tag body i → length body + 3 ≡ field_size i
+says_size tag body i (says.a_name t some few p) = ap field_size (sym p)
+says_size tag body i (says.a_rule t p) = ap field_size (sym p)
+says_size tag body i (says.an_entry t size p) = ap (λ (n : ℕ). n + 3) size ∙ ap field_size (sym p)
+says_size tag body i (says.a_tick t size p) = ap (λ (n : ℕ). n + 3) size ∙ ap field_size (sym p)
+
+pub adds_size : {bytes after : List ℕ} {i : Item} → AddsField bytes i after → length after ≡ length bytes + field_size i
+adds_size {bytes} {after} {i} a = omega (arith, ap length a.put, length-append bytes (packed a.tag a.body), says_size a.tag a.body i a.says)

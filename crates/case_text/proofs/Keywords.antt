@@ -1,19 +1,19 @@
 -- What a line says, by its first word.
-use Rattle.std.proofs.Common.{◌≡◌, ℕ, ◌<◌, ◌≤◌, Bool, true, false, List, [], ◌∷◌, length, Some, None, codes, Option, sym, refl, ap, ◌∙◌, subst, arith}
+use Rattle.std.proofs.Common.{◌≡◌, ℕ, ◌+◌, ◌<◌, ◌≤◌, Bool, true, false, List, [], ◌∷◌, length, Some, None, codes, Option, sym, refl, ap, ◌∙◌, subst, arith}
 use mathlib.Core.List.{head-eq_of_cons-eq}
 use Rattle.tokens.specs.Words.{IsName}
 use Rattle.cases.specs.declared.field.Entry.{Entry}
 use Rattle.cases.specs.declared.field.Content.{Content}
-use Rattle.cases.specs.Contents.{Item, name, rule, entry, tick}
+use Rattle.cases.specs.Contents.{Item, name, rule, entry, tick, item_of}
 use Rattle.case_text.specs.Pieces.{spoken, words_of, from_word, first_word, behind_word}
 use Rattle.case_text.specs.Words.{WholeNumber, WordsEnter}
 use Rattle.case_text.specs.Sayings.{Silent, LineSays, a_name, a_rule, an_entry, a_tick, Foregone, PlacedBy, MayCome, Speaks}
-use Rattle.case_text.specs.Parts.{Begins, ContentOf, NameContent, RuleContent, EntryContent, TickContent, FitsField}
+use Rattle.case_text.specs.Parts.{Begins, ContentOf, NameContent, EntryContent, TickContent, FitsField}
 use Rattle.case_text.proofs.Cutting.{none_first}
 
 data Keyed (names : List (List ℕ)) (key args : List ℕ) (i : Item) : Type 0 where
   k_name : (w : List ℕ) → key ≡ codes "line" → words_of args ≡ w ∷ [] → i ≡ name w → Keyed names key args i
-  k_rule : key ≡ codes "rule" → length (from_word args) ≤ 65535 → i ≡ rule (from_word args) → Keyed names key args i
+  k_rule : key ≡ codes "rule" → i ≡ rule (from_word args) → Keyed names key args i
   k_entry : (e : Entry) → key ≡ codes "enter" → WordsEnter names args e → i ≡ entry e → Keyed names key args i
   k_tick : (w : List ℕ) (n : ℕ) → key ≡ codes "tick" → words_of args ≡ w ∷ [] → WholeNumber w n → i ≡ tick n → Keyed names key args i
 
@@ -26,7 +26,7 @@ module _ (names : List (List ℕ)) (line told key args : List ℕ) (is : told �
 
   keyed : (i : Item) → LineSays names line i → Keyed names key args i
   keyed i (a_name {w = w} e n p) = k_name w (word ∙ e) (ap words_of behind ∙ n) p
-  keyed i (a_rule e n p) = k_rule (word ∙ e) (subst (λ (v : List ℕ). length (from_word v) ≤ 65535) (sym behind) n) (p ∙ ap (λ (v : List ℕ). rule (from_word v)) (sym behind))
+  keyed i (a_rule e p) = k_rule (word ∙ e) (p ∙ ap (λ (v : List ℕ). rule (from_word v)) (sym behind))
   keyed i (an_entry {e = x} e n p) = k_entry x (word ∙ e) (subst (λ (v : List ℕ). WordsEnter names v x) (sym behind) n) p
   keyed i (a_tick {w = w} {n = t} e n m p) = k_tick w t (word ∙ e) (ap words_of behind ∙ n) m p
 
@@ -35,25 +35,19 @@ module _ (names : List (List ℕ)) (line told key args : List ℕ) (is : told �
 
   no_name : ((w : List ℕ) → words_of args ≡ w ∷ [] → ⊥) → key ≡ codes "line" → (i : Item) → Keyed names key args i → ⊥
   no_name none k i (k_name w e n p) = none w n
-  no_name none k i (k_rule e n p) = omega (arith, clash k e)
+  no_name none k i (k_rule e p) = omega (arith, clash k e)
   no_name none k i (k_entry x e n p) = omega (arith, clash k e)
   no_name none k i (k_tick w t e n m p) = omega (arith, clash k e)
 
-  no_rule : (length (from_word args) ≤ 65535 → ⊥) → key ≡ codes "rule" → (i : Item) → Keyed names key args i → ⊥
-  no_rule none k i (k_name w e n p) = omega (arith, clash k e)
-  no_rule none k i (k_rule e n p) = none n
-  no_rule none k i (k_entry x e n p) = omega (arith, clash k e)
-  no_rule none k i (k_tick w t e n m p) = omega (arith, clash k e)
-
   no_entry : ((e : Entry) → WordsEnter names args e → ⊥) → key ≡ codes "enter" → (i : Item) → Keyed names key args i → ⊥
   no_entry none k i (k_name w e n p) = omega (arith, clash k e)
-  no_entry none k i (k_rule e n p) = omega (arith, clash k e)
+  no_entry none k i (k_rule e p) = omega (arith, clash k e)
   no_entry none k i (k_entry x e n p) = none x n
   no_entry none k i (k_tick w t e n m p) = omega (arith, clash k e)
 
   no_tick : ((w : List ℕ) (n : ℕ) → words_of args ≡ w ∷ [] → WholeNumber w n → ⊥) → key ≡ codes "tick" → (i : Item) → Keyed names key args i → ⊥
   no_tick none k i (k_name w e n p) = omega (arith, clash k e)
-  no_tick none k i (k_rule e n p) = omega (arith, clash k e)
+  no_tick none k i (k_rule e p) = omega (arith, clash k e)
   no_tick none k i (k_entry x e n p) = omega (arith, clash k e)
   no_tick none k i (k_tick w t e n m p) = none w t n m
 
@@ -64,9 +58,8 @@ module _ (names : List (List ℕ)) (line told key args : List ℕ) (is : told �
   by_name k None none = λ i s. no_name none k i (keyed i s)
   by_name k (Some c) said = a_name (key_is _ k) (ap words_of (sym behind) ∙ said.1) said.2
 
-  pub by_rule : key ≡ codes "rule" → (r : Option Content) → RuleContent args r → ContentOf names line r
-  by_rule k None none = λ i s. no_rule none k i (keyed i s)
-  by_rule k (Some c) said = a_rule (key_is _ k) (subst (λ (v : List ℕ). length (from_word v) ≤ 65535) behind said.0) (said.1 ∙ ap (λ (v : List ℕ). rule (from_word v)) behind)
+  pub by_rule : (c : Content) → key ≡ codes "rule" → item_of c ≡ rule (from_word args) → LineSays names line (item_of c)
+  by_rule c k said = a_rule (key_is _ k) (said ∙ ap (λ (v : List ℕ). rule (from_word v)) behind)
 
   pub by_entry : key ≡ codes "enter" → (r : Option Content) → EntryContent names args r → ContentOf names line r
   by_entry k None none = λ i s. no_entry none k i (keyed i s)
@@ -78,7 +71,7 @@ module _ (names : List (List ℕ)) (line told key args : List ℕ) (is : told �
 
   no_key : (key ≡ codes "line" → ⊥) → (key ≡ codes "rule" → ⊥) → (key ≡ codes "enter" → ⊥) → (key ≡ codes "tick" → ⊥) → (i : Item) → Keyed names key args i → ⊥
   no_key a b c d i (k_name w e n p) = a e
-  no_key a b c d i (k_rule e n p) = b e
+  no_key a b c d i (k_rule e p) = b e
   no_key a b c d i (k_entry x e n p) = c e
   no_key a b c d i (k_tick w t e n m p) = d e
 
@@ -91,7 +84,7 @@ no_first line word some s e = omega (arith, some, ap length e, ap length (none_f
 
 pub loud : (names : List (List ℕ)) (line : List ℕ) (i : Item) → Silent line → LineSays names line i → ⊥
 loud names line i s (a_name e n p) = no_first line (codes "line") (omega arith) s e
-loud names line i s (a_rule e n p) = no_first line (codes "rule") (omega arith) s e
+loud names line i s (a_rule e p) = no_first line (codes "rule") (omega arith) s e
 loud names line i s (an_entry e n p) = no_first line (codes "enter") (omega arith) s e
 loud names line i s (a_tick e n m p) = no_first line (codes "tick") (omega arith) s e
 
@@ -100,12 +93,12 @@ name_size : (w : List ℕ) → IsName w → (0 < length w) × (length w ≤ 8)
 name_size [] n = absurd n.letter
 name_size (b ∷ w) n = (omega arith, n.short)
 
-name_fits : (ruled : Bool) (names : List (List ℕ)) (w : List ℕ) → PlacedBy ruled names (name w) → FitsField (name w)
+name_fits : (ruled : Bool) (names : List (List ℕ)) (w : List ℕ) → PlacedBy ruled names (name w) → (0 < length w) × (length w ≤ 8)
 name_fits false names w a = name_size w a.formed
 name_fits true names w a = absurd a
 
-pub fits_said : (f : Foregone) (line : List ℕ) (i : Item) → LineSays f.names line i → MayCome f i → FitsField i
-fits_said f line i (a_name {w = w} e n p) m = subst FitsField (sym p) (name_fits f.ruled f.names w (subst (MayCome f) p m))
-fits_said f line i (a_rule e n p) m = subst FitsField (sym p) n
-fits_said f line i (an_entry e n p) m = subst FitsField (sym p) tt
-fits_said f line i (a_tick e n o p) m = subst FitsField (sym p) tt
+pub fits_here : (f : Foregone) (i : Item) → MayCome f i → FitsField f.size i
+fits_here f (name w) m = let n = name_fits f.ruled f.names w m.0 in (n.0, n.1, omega (arith, m.1))
+fits_here f (rule text) m = omega (arith, m.1)
+fits_here f (entry e) m = m.1
+fits_here f (tick t) m = m.1

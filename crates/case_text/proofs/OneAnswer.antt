@@ -41,19 +41,19 @@ one_key e f = head-eq_of_cons-eq (sym e ∙ f)
 
 one_item : (names : List (List ℕ)) (line : List ℕ) (i j : Item) → LineSays names line i → LineSays names line j → i ≡ j
 one_item names line i j (a_name e n p) (a_name f m q) = p ∙ ap name (head-eq_of_cons-eq (sym n ∙ m)) ∙ sym q
-one_item names line i j (a_name e n p) (a_rule f m q) = absurd (omega (arith, one_key e f))
+one_item names line i j (a_name e n p) (a_rule f q) = absurd (omega (arith, one_key e f))
 one_item names line i j (a_name e n p) (an_entry f m q) = absurd (omega (arith, one_key e f))
 one_item names line i j (a_name e n p) (a_tick f m o q) = absurd (omega (arith, one_key e f))
-one_item names line i j (a_rule e n p) (a_name f m q) = absurd (omega (arith, one_key e f))
-one_item names line i j (a_rule e n p) (a_rule f m q) = p ∙ sym q
-one_item names line i j (a_rule e n p) (an_entry f m q) = absurd (omega (arith, one_key e f))
-one_item names line i j (a_rule e n p) (a_tick f m o q) = absurd (omega (arith, one_key e f))
+one_item names line i j (a_rule e p) (a_name f m q) = absurd (omega (arith, one_key e f))
+one_item names line i j (a_rule e p) (a_rule f q) = p ∙ sym q
+one_item names line i j (a_rule e p) (an_entry f m q) = absurd (omega (arith, one_key e f))
+one_item names line i j (a_rule e p) (a_tick f m o q) = absurd (omega (arith, one_key e f))
 one_item names line i j (an_entry e n p) (a_name f m q) = absurd (omega (arith, one_key e f))
-one_item names line i j (an_entry e n p) (a_rule f m q) = absurd (omega (arith, one_key e f))
+one_item names line i j (an_entry e n p) (a_rule f q) = absurd (omega (arith, one_key e f))
 one_item names line i j (an_entry {e = x} e n p) (an_entry {e = y} f m q) = p ∙ ap entry (one_entry names (behind_word (spoken line)) x y n m) ∙ sym q
 one_item names line i j (an_entry e n p) (a_tick f m o q) = absurd (omega (arith, one_key e f))
 one_item names line i j (a_tick e n k p) (a_name f m q) = absurd (omega (arith, one_key e f))
-one_item names line i j (a_tick e n k p) (a_rule f m q) = absurd (omega (arith, one_key e f))
+one_item names line i j (a_tick e n k p) (a_rule f q) = absurd (omega (arith, one_key e f))
 one_item names line i j (a_tick e n k p) (an_entry f m q) = absurd (omega (arith, one_key e f))
 one_item names line i j (a_tick {w = w} {n = t} e n k p) (a_tick {w = v} {n = u} f m o q) = p ∙ ap tick (k.value ∙ sym (subst (λ (x : List ℕ). WholeNumber x u) (head-eq_of_cons-eq (sym m ∙ n)) o).value) ∙ sym q
 

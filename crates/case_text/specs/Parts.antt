@@ -1,17 +1,16 @@
 -- What the inner functions answer: of a word, of a line, and of one more field.
-use Rattle.std.specs.Prelude.{◌≡◌, ℕ, ◌<◌, ◌≤◌, List, [], ◌∷◌, ◌++◌, length, Some, None, Option}
+use Rattle.std.specs.Prelude.{◌≡◌, ℕ, ◌+◌, ◌<◌, ◌≤◌, List, [], ◌∷◌, ◌++◌, length, Some, None, Option}
 use Rattle.cases.specs.declared.field.Entry.{Entry}
 use Rattle.cases.specs.declared.field.Content.{Content}
 use Rattle.cases.specs.Contents.{Item, name, rule, entry, tick, Says, item_of}
 use Rattle.cases.specs.Laws.{packed}
-use Rattle.case_text.specs.declared.fault.PackFault.{PackFault}
-use Rattle.case_text.specs.declared.fault.PackFault.TheVariants.{BadLine, NoMemory}
+use Rattle.case_text.specs.declared.fault.BadLine.{BadLine}
 use Rattle.case_text.specs.declared.line.EntryWords.{EntryWords}
 use Rattle.case_text.specs.declared.split.Split.{Split}
 use Rattle.std.specs.Borrow.{Bor}
 use Rattle.tokens.specs.Answers.{texts}
 use Rattle.case_text.specs.declared.packing.Before.{Before}
-use Rattle.case_text.specs.Pieces.{words_of, from_word, first_word, behind_word}
+use Rattle.case_text.specs.Pieces.{words_of, first_word, behind_word}
 use Rattle.case_text.specs.Words.{WholeNumber, WordsEnter}
 use Rattle.case_text.specs.Sayings.{Silent, LineSays, Foregone, and_then, Speaks, Bad}
 
@@ -48,10 +47,6 @@ abbrev pub NameContent : List ℕ → Option Content → Type 0
 NameContent bytes None = (w : List ℕ) → words_of bytes ≡ w ∷ [] → ⊥
 NameContent bytes (Some c) = (w : List ℕ) × (words_of bytes ≡ w ∷ []) × (item_of c ≡ name w)
 
-abbrev pub RuleContent : List ℕ → Option Content → Type 0
-RuleContent bytes None = length (from_word bytes) ≤ 65535 → ⊥
-RuleContent bytes (Some c) = (length (from_word bytes) ≤ 65535) × (item_of c ≡ rule (from_word bytes))
-
 abbrev pub EntryContent : List (List ℕ) → List ℕ → Option Content → Type 0
 EntryContent names words None = (e : Entry) → WordsEnter names words e → ⊥
 EntryContent names words (Some c) = (e : Entry) × WordsEnter names words e × (item_of c ≡ entry e)
@@ -67,14 +62,14 @@ ContentOf names line (Some c) = LineSays names line (item_of c)
 
 -- what stands before a line, as the program holds it
 abbrev pub foregone : Before → Foregone
-foregone b = record { names = texts b.names.items; ruled = b.ruled }
+foregone b = record { names = texts b.names.items; ruled = b.ruled; size = length b.case.items }
 
--- small enough for a field
-abbrev pub FitsField : Item → Type 0
-FitsField (name w) = (0 < length w) × (length w ≤ 8)
-FitsField (rule text) = length text ≤ 65535
-FitsField (entry e) = Unit {0}
-FitsField (tick t) = Unit {0}
+-- small enough for a field, and for the bytes that a case has left
+abbrev pub FitsField : ℕ → Item → Type 0
+FitsField n (name w) = (0 < length w) × (length w ≤ 8) × (n + length w + 3 ≤ 16384)
+FitsField n (rule text) = n + length text + 3 ≤ 16384
+FitsField n (entry e) = n + 20 ≤ 16384
+FitsField n (tick t) = n + 7 ≤ 16384
 
 -- one more field stands behind the bytes, and says the item
 pub record AddsField (bytes : List ℕ) (i : Item) (after : List ℕ) : Type 0 where
@@ -93,6 +88,5 @@ pub data LineTaken (f : Foregone) (bytes line : List ℕ) (g : Foregone) (after 
   passed : Silent line → g ≡ f → after ≡ bytes → LineTaken f bytes line g after
   took : (i : Item) → TookLine f bytes line i g after → LineTaken f bytes line g after
 
-abbrev pub LineRefused : Foregone → List ℕ → ℕ → PackFault → Type 0
-LineRefused f line number (BadLine n) = Bad f line × (n ≡ number)
-LineRefused f line number NoMemory = Unit {0}
+abbrev pub LineRefused : Foregone → List ℕ → ℕ → BadLine → Type 0
+LineRefused f line number b = Bad f line × (b.number ≡ number)

@@ -3,16 +3,13 @@ ghost use Rattle.std.specs.Prelude.{Decides};
 ghost use Rattle.tokens.specs.Answers.{texts};
 ghost use Rattle.case_text.specs.Words.{WordsEnter};
 ghost use Rattle.case_text.specs.Sayings.{Silent};
-ghost use Rattle.case_text.specs.Parts.{ValueRead, Five, ContentOf, NameContent, RuleContent, TickContent};
+ghost use Rattle.case_text.specs.Parts.{ValueRead, Five, ContentOf, NameContent, TickContent};
 
 use crate::keyword::{Keyword, keyword_of};
 use crate::number::{reading, whole};
 use crate::split::{from_first, next_word, one_word, spoken_of};
 use crate::word::line_of;
 use cases::field::{Content, Entry};
-
-// The most bytes of a rule, since a field has no more.
-const RULE_BYTES: usize = 65_535;
 
 /// The words of an entry.
 #[derive(Clone, Copy)]
@@ -35,13 +32,6 @@ fn name_of<'a>(bytes: &'a [u8]) -> Option<Content<'a>>
     ensures { NameContent bytes.now result }
 {
     Some(Content::Name(one_word(bytes)?))
-}
-
-fn rule_of<'a>(bytes: &'a [u8]) -> Option<Content<'a>>
-    ensures { RuleContent bytes.now result }
-{
-    let text = from_first(bytes);
-    (text.len() <= RULE_BYTES).then_some(Content::Rule(text))
 }
 
 fn tick_of<'a>(bytes: &'a [u8]) -> Option<Content<'a>>
@@ -98,7 +88,7 @@ pub(crate) fn content_of<'a>(names: &[&[u8]], line: &'a [u8]) -> Option<Content<
     let split = next_word(spoken_of(line))?;
     match keyword_of(split.front)? {
         Keyword::Line => name_of(split.rest),
-        Keyword::Rule => rule_of(split.rest),
+        Keyword::Rule => Some(Content::Rule(from_first(split.rest))),
         Keyword::Enter => Some(Content::Entry(entry_of(names, split.rest)?)),
         Keyword::Tick => tick_of(split.rest),
     }

@@ -1,5 +1,6 @@
 use Rattle.std.proofs.Common.{Some, None, refl, sym, ap, ◌∙◌}
 use Rattle.cases.specs.declared.field.Content.TheVariants as content
+use Rattle.cases.specs.Contents.{rule}
 use Rattle.case_text.specs.declared.keyword.Keyword.TheVariants.{Line, Rule, Enter, Tick}
 use Rattle.case_text.specs.Keywords.{spelled}
 use Rattle.case_text.specs.Pieces.{words_of}
@@ -18,7 +19,7 @@ pub returns-in-Line : goal.returns-in-Line
 returns-in-Line c = by_name _ _ _ _ _ c.spoken_of.ensures c.in_ok-split.ensures (c.in_ok-keyword_of.ensures ∙ ap spelled c.in-Line.is) _ c.name_of.ensures
 
 pub returns-in-Rule : goal.returns-in-Rule
-returns-in-Rule c = by_rule _ _ _ _ _ c.spoken_of.ensures c.in_ok-split.ensures (c.in_ok-keyword_of.ensures ∙ ap spelled c.in-Rule.is) _ c.rule_of.ensures
+returns-in-Rule c = by_rule _ _ _ _ _ c.spoken_of.ensures c.in_ok-split.ensures (content.Rule c.from_first.result) (c.in_ok-keyword_of.ensures ∙ ap spelled c.in-Rule.is) (ap rule c.from_first.ensures)
 
 pub returns-in_err-entry_of-in-Enter : goal.returns-in_err-entry_of-in-Enter
 returns-in_err-entry_of-in-Enter c =
