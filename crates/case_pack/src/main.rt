@@ -1,8 +1,7 @@
 // Reads the text of a case from standard input, and writes the bytes of the case to standard output.
 #![tactic(auto)]
 
-use case_text::{PackFault, pack};
-use std::alloc::AllocError;
+use case_text::pack;
 use std::io;
 use std::io::{Read, Write};
 use std::process::ExitCode;
@@ -11,15 +10,15 @@ use std::process::ExitCode;
 fn main(rt: HostRuntime) -> io::Result<ExitCode> {
     let mut text: Vec<u8> = Vec::new(rt.alloc());
     let _ = rt.stdin().read_to_end(&mut text)?;
-    match pack(text.as_slice(), rt.alloc()) {
+    match pack(text.as_slice()) {
         Ok(case) => {
             rt.stdout().write_all(case.as_slice())?;
             Ok(ExitCode::SUCCESS)
         }
-        Err(PackFault::BadLine { number }) => {
+        Err(fault) => {
+            let number = fault.number;
             eprintln!(rt; "bad line {number}")?;
             Ok(ExitCode::FAILURE)
         }
-        Err(PackFault::NoMemory) => Err(io::Error::from(AllocError)),
     }
 }

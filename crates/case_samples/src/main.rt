@@ -6,7 +6,7 @@ ghost use Rattle.case_samples.specs.Samples.{SampleListed, FaultShown, Shown};
 
 use case_lines::cells::{MARKS, PIECES, ROWS, WANTS};
 use case_lines::listing::list_case;
-use case_text::{PackFault, pack};
+use case_text::{BadLine, pack};
 use lent::blank::{BLANK_MARK, BLANK_WANT, blank_piece, blank_row};
 use lent::cells::Cells;
 use std::alloc::{AllocError, Global};
@@ -40,20 +40,18 @@ fn list(case: &[u8], heap: Global) -> Result<String, AllocError>
 }
 
 // What is printed of a text that is not packed.
-fn show_fault(fault: PackFault, heap: Global) -> Result<String, AllocError>
-    ensures { IfOk result (λ shown. FaultShown fault (string_bytes shown)) }
+fn show_fault(fault: BadLine, heap: Global) -> Result<String, AllocError>
+    ensures { IfOk result (λ shown. FaultShown fault.number (string_bytes shown)) }
 {
-    match fault {
-        PackFault::BadLine { number } => format!(in heap; "bad line {number}\n"),
-        PackFault::NoMemory => Err(AllocError),
-    }
+    let number = fault.number;
+    format!(in heap; "bad line {number}\n")
 }
 
 // What is printed of a text: its case's listing, or its bad line.
 fn show(text: &[u8], heap: Global) -> Result<String, AllocError>
     ensures { IfOk result (λ shown. Shown text.now (string_bytes shown)) }
 {
-    match pack(text, heap) {
+    match pack(text) {
         Ok(case) => list(case.as_slice(), heap),
         Err(fault) => show_fault(fault, heap),
     }

@@ -2,24 +2,24 @@
 use Rattle.std.proofs.Common.{◌≡◌, ℕ, ◌+◌, List, [], ◌∷◌, length, sym, ap, ◌∙◌, subst, arith}
 use mathlib.Core.List.{head-eq_of_cons-eq, tail-eq_of_cons-eq}
 use Rattle.cases.specs.declared.field.Entry.{Entry}
-use Rattle.tokens.specs.Bytes.{Without}
-use Rattle.case_text.specs.Pieces.{words_of, CutAt}
+use Rattle.case_text.specs.Pieces.{words_of}
 use Rattle.case_text.specs.Words.{WholeNumber, WritesReading, FirstNamed, WordsEnter}
-use Rattle.case_text.proofs.Cutting.{pieces_one, pieces_cut}
+use Rattle.case_text.specs.Parts.{Begins}
 
-pub count_one : (w : List ℕ) → Without 32 w → length (words_of w) ≡ 1
-count_one w h = ap length (pieces_one 32 w h)
+pub count_none : (w : List ℕ) → words_of w ≡ [] → length (words_of w) ≡ 0
+count_none w h = ap length h
 
-pub count_cut : {w f r : List ℕ} → CutAt 32 w f r → length (words_of w) ≡ length (words_of r) + 1
-count_cut {w} {f} {r} x = ap length (pieces_cut 32 w f r x) ∙ omega arith
+pub count_cut : {w f r : List ℕ} → Begins w f r → length (words_of w) ≡ length (words_of r) + 1
+count_cut {w} {f} {r} x = ap length x.words ∙ omega arith
 
-pub five_is : {w f g h k r s t : List ℕ} (u : List ℕ) → CutAt 32 w f r → CutAt 32 r g s → CutAt 32 s h t → CutAt 32 t k u → Without 32 u → words_of w ≡ f ∷ (g ∷ (h ∷ (k ∷ (u ∷ []))))
-five_is {w} {f} {g} {h} {k} {r} {s} {t} u a b c d e =
-    pieces_cut 32 w f r a ∙
-    ap (λ (v : List (List ℕ)). f ∷ v) (pieces_cut 32 r g s b) ∙
-    ap (λ (v : List (List ℕ)). f ∷ (g ∷ v)) (pieces_cut 32 s h t c) ∙
-    ap (λ (v : List (List ℕ)). f ∷ (g ∷ (h ∷ v))) (pieces_cut 32 t k u d) ∙
-    ap (λ (v : List (List ℕ)). f ∷ (g ∷ (h ∷ (k ∷ v)))) (pieces_one 32 u e)
+pub five_is : {w f g h k u q r s t v : List ℕ} → Begins w f q → Begins q g r → Begins r h s → Begins s k t → Begins t u v → words_of v ≡ [] → words_of w ≡ f ∷ (g ∷ (h ∷ (k ∷ (u ∷ []))))
+five_is {w} {f} {g} {h} {k} {u} a b c d e none =
+    a.words ∙
+    ap (λ (l : List (List ℕ)). f ∷ l) b.words ∙
+    ap (λ (l : List (List ℕ)). f ∷ (g ∷ l)) c.words ∙
+    ap (λ (l : List (List ℕ)). f ∷ (g ∷ (h ∷ l))) d.words ∙
+    ap (λ (l : List (List ℕ)). f ∷ (g ∷ (h ∷ (k ∷ l)))) e.words ∙
+    ap (λ (l : List (List ℕ)). f ∷ (g ∷ (h ∷ (k ∷ (u ∷ l))))) none
 
 -- with these five words, an entry has no others
 module _ (names : List (List ℕ)) (words f g h k u : List ℕ) (five : words_of words ≡ f ∷ (g ∷ (h ∷ (k ∷ (u ∷ []))))) (e : Entry) (x : WordsEnter names words e) where

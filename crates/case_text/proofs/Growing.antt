@@ -1,30 +1,29 @@
 -- Line by line: what was said so far, and the fields that say it.
 use Rattle.std.proofs.Common.{◌≡◌, ℕ, ◌+◌, ◌/◌, ◌%◌, ◌<◌, ◌≤◌, List, [], ◌∷◌, ◌++◌, length, get_or, take, drop, sym, refl, ap, ◌∙◌, subst, arith}
 use Rattle.std.specs.List.{enumerate_from}
-use Rattle.std.proofs.lemmas.List.{append-nil, append_assoc, take-append-drop, drop_more, take_more, take_all, length-take-le}
+use Rattle.std.proofs.lemmas.List.{length-append, append-nil, append_assoc, take-append-drop, drop_more, take_more, take_all, length-take-le}
 use Rattle.std.proofs.lemmas.List.FromFn.{length-enumerate_from, get_or-enumerate_from}
 use Rattle.cases.specs.Fields.{Leads}
 use Rattle.cases.specs.Contents.{Item, Says}
+use Rattle.cases.specs.Contents as says
 use Rattle.cases.specs.Laws.{packed}
-use Rattle.case_text.specs.declared.fault.PackFault.{PackFault}
-use Rattle.case_text.specs.declared.fault.PackFault.TheVariants.{BadLine, NoMemory}
+use Rattle.case_text.specs.declared.fault.BadLine.{BadLine}
 use Rattle.case_text.specs.Pieces.{lines_of}
-use Rattle.case_text.specs.Sayings.{LineSays, Bad, named, names_of, LinesSay}
+use Rattle.case_text.specs.Sayings.{Foregone, field_size, and_then, and_all, at_first, Speaks, Bad, LinesSay}
 use Rattle.case_text.specs.Sayings as say
-use Rattle.case_text.specs.Packs.{ReadsBack, Packed, StopsAtLine, Faulted}
+use Rattle.case_text.specs.Packs.{ReadsBack, Packed, StopsAtLine}
 use Rattle.case_text.specs.Packs as back
-use Rattle.case_text.specs.Parts.{LineTaken, passed, took, LineRefused}
+use Rattle.case_text.specs.Parts.{LineTaken, passed, took, LineRefused, AddsField}
 
 -- lines behind lines
-say_more : {names lines more : List (List ℕ)} {items rest : List Item} → LinesSay names lines items → LinesSay (names ++ names_of items) more rest → LinesSay names (lines ++ more) (items ++ rest)
-say_more {names} {lines} {more} {items} {rest} (say.nothing e f) h =
-    subst (λ (v : List (List ℕ)). LinesSay names (v ++ more) (items ++ rest)) (sym e)
-    (subst (λ (v : List Item). LinesSay names more (v ++ rest)) (sym f)
-    (subst (λ (v : List (List ℕ)). LinesSay v more rest) (ap (λ (v : List Item). names ++ names_of v) f ∙ append-nil names) h))
-say_more {names} {lines} {more} {items} {rest} (say.silent e s m) h = say.silent (ap (λ (v : List (List ℕ)). v ++ more) e) s (say_more m h)
-say_more {names} {lines} {more} {items} {rest} (say.item {i = i} {rest = is} e s f m) h =
-    say.item (ap (λ (v : List (List ℕ)). v ++ more) e) s (ap (λ (v : List Item). v ++ rest) f)
-    (say_more m (subst (λ (v : List (List ℕ)). LinesSay v more rest) (ap (λ (v : List Item). names ++ names_of v) f ∙ sym (append_assoc names (named i) (names_of is))) h))
+say_more : {g : Foregone} {lines more : List (List ℕ)} {items rest : List Item} → LinesSay g lines items → LinesSay (and_all g items) more rest → LinesSay g (lines ++ more) (items ++ rest)
+say_more {g} {lines} {more} {items} {rest} (say.nothing e f) h =
+    subst (λ (v : List (List ℕ)). LinesSay g (v ++ more) (items ++ rest)) (sym e)
+    (subst (λ (v : List Item). LinesSay g more (v ++ rest)) (sym f)
+    (subst (λ (v : List Item). LinesSay (and_all g v) more rest) f h))
+say_more {g} {lines} {more} {items} {rest} (say.silent e s m) h = say.silent (ap (λ (v : List (List ℕ)). v ++ more) e) s (say_more m h)
+say_more {g} {lines} {more} {items} {rest} (say.item {i = i} {rest = is} e s f m) h =
+    say.item (ap (λ (v : List (List ℕ)). v ++ more) e) s (ap (λ (v : List Item). v ++ rest) f) (say_more m (subst (λ (v : List Item). LinesSay (and_all g v) more rest) f h))
 
 -- fields behind fields
 leads_more : {bytes body rest : List ℕ} {tag : ℕ} (more : List ℕ) → Leads bytes tag body rest → Leads (bytes ++ more) tag body (rest ++ more)
@@ -53,32 +52,35 @@ back_one tag body i s =
     refl
     (back.nothing refl refl)
 
-names_more : (items : List Item) (i : Item) → names_of (items ++ (i ∷ [])) ≡ names_of items ++ named i
-names_more [] i = append-nil (named i)
-names_more (j ∷ items) i = ap (λ (v : List (List ℕ)). named j ++ v) (names_more items i) ∙ sym (append_assoc (named j) (names_of items) (named i))
+and_more : (g : Foregone) (items : List Item) (i : Item) → and_all g (items ++ (i ∷ [])) ≡ and_then (and_all g items) i
+and_more g [] i = refl
+and_more g (j ∷ items) i = and_more (and_then g j) items i
 
--- after these lines: what they said, the names that they gave, and the fields
-pub record Held (before names : List (List ℕ)) (bytes : List ℕ) : Type 0 where
+-- after these lines: what they said, what stands before the next, and the fields
+pub record Held (before : List (List ℕ)) (g : Foregone) (bytes : List ℕ) : Type 0 where
   pub items : List Item
-  pub said : LinesSay [] before items
-  pub kept : names ≡ names_of items
+  pub said : LinesSay at_first before items
+  pub kept : g ≡ and_all at_first items
   pub back : ReadsBack bytes items
+  pub short : g.size ≤ 16384
 
-pub none_held : {names : List (List ℕ)} {bytes : List ℕ} → names ≡ [] → bytes ≡ [] → Held [] names bytes
-none_held e f = record { items = []; said = say.nothing refl refl; kept = e; back = back.nothing f refl }
+pub none_held : {g : Foregone} {bytes : List ℕ} → g ≡ at_first → bytes ≡ [] → Held [] g bytes
+none_held e f = record { items = []; said = say.nothing refl refl; kept = e; back = back.nothing f refl; short = omega (arith, ap (λ (v : Foregone). v.size) e) }
 
-pub one_more : {before names after : List (List ℕ)} {bytes line more : List ℕ} → Held before names bytes → LineTaken names bytes line after more → Held (before ++ (line ∷ [])) after more
-one_more {before} {names} {after} {bytes} {line} {more} h (passed s e f) = record {
+pub one_more : {before : List (List ℕ)} {g after : Foregone} {bytes line more : List ℕ} → Held before g bytes → LineTaken g bytes line after more → Held (before ++ (line ∷ [])) after more
+one_more {before} {g} {after} {bytes} {line} {more} h (passed s e f) = record {
   items = h.items;
-  said = subst (LinesSay [] (before ++ (line ∷ []))) (append-nil h.items) (say_more h.said (say.silent refl s (say.nothing refl refl)));
+  said = subst (LinesSay at_first (before ++ (line ∷ []))) (append-nil h.items) (say_more h.said (say.silent refl s (say.nothing refl refl)));
   kept = e ∙ h.kept;
   back = subst (λ (v : List ℕ). ReadsBack v h.items) (sym f) h.back;
+  short = subst (λ (v : Foregone). v.size ≤ 16384) (sym e) h.short;
 }
-one_more {before} {names} {after} {bytes} {line} {more} h (took i t) = record {
+one_more {before} {g} {after} {bytes} {line} {more} h (took i t) = record {
   items = h.items ++ (i ∷ []);
-  said = say_more h.said (say.item refl (subst (λ (v : List (List ℕ)). LineSays v line i) h.kept t.says) refl (say.nothing refl refl));
-  kept = t.kept ∙ ap (λ (v : List (List ℕ)). v ++ named i) h.kept ∙ sym (names_more h.items i);
+  said = say_more h.said (say.item refl (subst (λ (v : Foregone). Speaks v line i) h.kept t.speaks) refl (say.nothing refl refl));
+  kept = t.kept ∙ ap (λ (v : Foregone). and_then v i) h.kept ∙ sym (and_more at_first h.items i);
   back = subst (λ (v : List ℕ). ReadsBack v (h.items ++ (i ∷ []))) (sym t.adds.put) (back_more h.back (back_one t.adds.tag t.adds.body i t.adds.says));
+  short = subst (λ (v : Foregone). v.size ≤ 16384) (sym t.kept) t.speaks.place.1;
 }
 
 -- the line of this number is the next
@@ -88,15 +90,15 @@ next_line lines n i line there is =
     let same = is ∙ get_or-enumerate_from 0 lines n (i, line) here in
     (here, omega (arith, ap (λ (p : ℕ × List ℕ). p.0) same), ap (λ (p : ℕ × List ℕ). p.1) same)
 
-pub gone_on : (lines : List (List ℕ)) (n : ℕ) (line : List ℕ) {names after : List (List ℕ)} {bytes grown : List ℕ} → n < length lines → line ≡ get_or lines n line → Held (take n lines) names bytes → LineTaken names bytes line after grown → Held (take (n + 1) lines) after grown
-gone_on lines n line {names} {after} {bytes} {grown} there is h t =
+pub gone_on : (lines : List (List ℕ)) (n : ℕ) (line : List ℕ) {g after : Foregone} {bytes grown : List ℕ} → n < length lines → line ≡ get_or lines n line → Held (take n lines) g bytes → LineTaken g bytes line after grown → Held (take (n + 1) lines) after grown
+gone_on lines n line {g} {after} {bytes} {grown} there is h t =
     subst (λ (v : List (List ℕ)). Held v after grown) (ap (λ (l : List ℕ). take n lines ++ (l ∷ [])) is ∙ sym (take_more lines n line there)) (one_more h t)
 
-pub ended : (text : List ℕ) (n : ℕ) {names : List (List ℕ)} {bytes : List ℕ} → length (lines_of text) ≤ n → Held (take n (lines_of text)) names bytes → Packed text bytes
-ended text n all h = record { items = h.items; said = subst (λ (v : List (List ℕ)). LinesSay [] v h.items) (take_all n (lines_of text) all) h.said; back = h.back }
+pub ended : (text : List ℕ) (n : ℕ) {g : Foregone} {bytes : List ℕ} → length (lines_of text) ≤ n → g.size ≡ length bytes → Held (take n (lines_of text)) g bytes → Packed text bytes
+ended text n all size h = record { items = h.items; said = subst (λ (v : List (List ℕ)). LinesSay at_first v h.items) (take_all n (lines_of text) all) h.said; back = h.back; short = omega (arith, size, h.short) }
 
-pub stopped : (f : PackFault) (text : List ℕ) (n number : ℕ) (line : List ℕ) {names : List (List ℕ)} {bytes : List ℕ} → n < length (lines_of text) → line ≡ get_or (lines_of text) n line → number ≡ n + 1 → Held (take n (lines_of text)) names bytes → LineRefused names line number f → Faulted text f
-stopped (BadLine m) text n number line there is count h bad =
+pub stopped : (f : BadLine) (text : List ℕ) (n number : ℕ) (line : List ℕ) {g : Foregone} {bytes : List ℕ} → n < length (lines_of text) → line ≡ get_or (lines_of text) n line → number ≡ n + 1 → Held (take n (lines_of text)) g bytes → LineRefused g line number f → StopsAtLine text f.number
+stopped f text n number line there is count h bad =
     let lines = lines_of text in
     record {
       before = take n lines;
@@ -106,6 +108,15 @@ stopped (BadLine m) text n number line there is count h bad =
       split = sym (take-append-drop n lines) ∙ ap (λ (v : List (List ℕ)). take n lines ++ v) (drop_more lines n line there ∙ ap (λ (l : List ℕ). l ∷ drop (n + 1) lines) (sym is));
       count = omega (arith, bad.1, count, length-take-le n lines (omega arith));
       said = h.said;
-      bad = subst (λ (v : List (List ℕ)). Bad v line) h.kept bad.0;
+      bad = subst (λ (v : Foregone). Bad v line) h.kept bad.0;
     }
-stopped NoMemory text n number line there is count h bad = tt
+
+-- a field more has the bytes that its item says
+says_size : (tag : ℕ) (body : List ℕ) (i : Item) → Says tag body i → length body + 3 ≡ field_size i
+says_size tag body i (says.a_name t some few p) = ap field_size (sym p)
+says_size tag body i (says.a_rule t p) = ap field_size (sym p)
+says_size tag body i (says.an_entry t size p) = ap (λ (n : ℕ). n + 3) size ∙ ap field_size (sym p)
+says_size tag body i (says.a_tick t size p) = ap (λ (n : ℕ). n + 3) size ∙ ap field_size (sym p)
+
+pub adds_size : {bytes after : List ℕ} {i : Item} → AddsField bytes i after → length after ≡ length bytes + field_size i
+adds_size {bytes} {after} {i} a = omega (arith, ap length a.put, length-append bytes (packed a.tag a.body), says_size a.tag a.body i a.says)

@@ -1,11 +1,9 @@
 -- What packing a text answers: the bytes of a case that is read back as what the text's lines say, or the first bad line.
-use Rattle.std.specs.Prelude.{◌≡◌, ℕ, ◌+◌, List, [], ◌∷◌, ◌++◌, length, Ok, Err, Result}
+use Rattle.std.specs.Prelude.{◌≡◌, ℕ, ◌+◌, ◌≤◌, List, [], ◌∷◌, ◌++◌, length}
 use Rattle.cases.specs.Fields.{Leads}
 use Rattle.cases.specs.Contents.{Item, Says}
-use Rattle.case_text.specs.declared.fault.PackFault.{PackFault}
-use Rattle.case_text.specs.declared.fault.PackFault.TheVariants.{BadLine, NoMemory}
 use Rattle.case_text.specs.Pieces.{lines_of}
-use Rattle.case_text.specs.Sayings.{LinesSay, Bad, names_of}
+use Rattle.case_text.specs.Sayings.{LinesSay, Bad, at_first, and_all}
 
 -- the bytes are fields, one behind the other, that say these items
 pub data ReadsBack : List ℕ → List Item → Type 0 where
@@ -14,8 +12,9 @@ pub data ReadsBack : List ℕ → List Item → Type 0 where
 
 pub record Packed (text bytes : List ℕ) : Type 0 where
   pub items : List Item
-  pub said : LinesSay [] (lines_of text) items
+  pub said : LinesSay at_first (lines_of text) items
   pub back : ReadsBack bytes items
+  pub short : length bytes ≤ 16384
 
 -- lines count from 1; those before line n say items or nothing, and line n is bad
 pub record StopsAtLine (text : List ℕ) (n : ℕ) : Type 0 where
@@ -25,13 +24,5 @@ pub record StopsAtLine (text : List ℕ) (n : ℕ) : Type 0 where
   pub items : List Item
   pub split : lines_of text ≡ before ++ (line ∷ behind)
   pub count : n ≡ length before + 1
-  pub said : LinesSay [] before items
-  pub bad : Bad (names_of items) line
-
-abbrev pub Faulted : List ℕ → PackFault → Type 0
-Faulted text (BadLine n) = StopsAtLine text n
-Faulted text NoMemory = Unit {0}
-
-abbrev pub PackAnswer : List ℕ → Result (List ℕ) PackFault → Type 0
-PackAnswer text (Ok bytes) = Packed text bytes
-PackAnswer text (Err f) = Faulted text f
+  pub said : LinesSay at_first before items
+  pub bad : Bad (and_all at_first items) line

@@ -1,22 +1,33 @@
 -- What the inner functions answer: of a word, of a line, and of one more field.
-use Rattle.std.specs.Prelude.{◌≡◌, ℕ, ◌<◌, ◌≤◌, List, [], ◌∷◌, ◌++◌, length, Some, None, Option}
+use Rattle.std.specs.Prelude.{◌≡◌, ℕ, ◌+◌, ◌<◌, ◌≤◌, List, [], ◌∷◌, ◌++◌, length, Some, None, Option}
 use Rattle.cases.specs.declared.field.Entry.{Entry}
 use Rattle.cases.specs.declared.field.Content.{Content}
 use Rattle.cases.specs.Contents.{Item, name, rule, entry, tick, Says, item_of}
 use Rattle.cases.specs.Laws.{packed}
-use Rattle.case_text.specs.declared.fault.PackFault.{PackFault}
-use Rattle.case_text.specs.declared.fault.PackFault.TheVariants.{BadLine, NoMemory}
+use Rattle.case_text.specs.declared.fault.BadLine.{BadLine}
 use Rattle.case_text.specs.declared.line.EntryWords.{EntryWords}
 use Rattle.case_text.specs.declared.split.Split.{Split}
-use Rattle.tokens.specs.Bytes.{Without}
-use Rattle.case_text.specs.Pieces.{CutAt, words_of}
-use Rattle.case_text.specs.Words.{LineName, WholeNumber, WordsEnter}
-use Rattle.case_text.specs.Sayings.{Silent, LineSays, SaysNone, Bad, named}
+use Rattle.std.specs.Borrow.{Bor}
+use Rattle.tokens.specs.Answers.{texts}
+use Rattle.case_text.specs.declared.packing.Before.{Before}
+use Rattle.case_text.specs.Pieces.{words_of, first_word, behind_word}
+use Rattle.case_text.specs.Words.{WholeNumber, WordsEnter}
+use Rattle.case_text.specs.Sayings.{Silent, LineSays, Foregone, and_then, Speaks, Bad}
 
--- the text is cut at its first c, if it has one
-abbrev pub Cuts : ℕ → List ℕ → Option Split → Type 0
-Cuts c bytes None = Without c bytes
-Cuts c bytes (Some s) = CutAt c bytes s.front.now s.rest.now
+-- the first word of the bytes and what stands behind it, or there is no word
+pub record Begins (bytes front rest : List ℕ) : Type 0 where
+  pub word : front ≡ first_word bytes
+  pub behind : rest ≡ behind_word bytes
+  pub words : words_of bytes ≡ front ∷ words_of rest
+
+abbrev pub Cuts : List ℕ → Option Split → Type 0
+Cuts bytes None = words_of bytes ≡ []
+Cuts bytes (Some s) = Begins bytes s.front.now s.rest.now
+
+-- the bytes have this one word, or another number of words
+abbrev pub Only : List ℕ → Option (Bor (List ℕ)) → Type 0
+Only bytes None = (w : List ℕ) → words_of bytes ≡ w ∷ [] → ⊥
+Only bytes (Some w) = words_of bytes ≡ w.now ∷ []
 
 -- the value that a word has, if it has one
 abbrev pub ValueRead : {A : Type 0} → (A → Type 0) → Option A → Type 0
@@ -33,32 +44,32 @@ Five words (Some f) = words_of words ≡ words_in f
 
 -- what stands behind the first word of a line, as an item of each kind
 abbrev pub NameContent : List ℕ → Option Content → Type 0
-NameContent w None = LineName w → ⊥
-NameContent w (Some c) = LineName w × (item_of c ≡ name w)
-
-abbrev pub RuleContent : List ℕ → Option Content → Type 0
-RuleContent text None = length text ≤ 65535 → ⊥
-RuleContent text (Some c) = (length text ≤ 65535) × (item_of c ≡ rule text)
+NameContent bytes None = (w : List ℕ) → words_of bytes ≡ w ∷ [] → ⊥
+NameContent bytes (Some c) = (w : List ℕ) × (words_of bytes ≡ w ∷ []) × (item_of c ≡ name w)
 
 abbrev pub EntryContent : List (List ℕ) → List ℕ → Option Content → Type 0
 EntryContent names words None = (e : Entry) → WordsEnter names words e → ⊥
 EntryContent names words (Some c) = (e : Entry) × WordsEnter names words e × (item_of c ≡ entry e)
 
 abbrev pub TickContent : List ℕ → Option Content → Type 0
-TickContent w None = (n : ℕ) → WholeNumber w n → ⊥
-TickContent w (Some c) = (n : ℕ) × WholeNumber w n × (item_of c ≡ tick n)
+TickContent bytes None = (w : List ℕ) (n : ℕ) → words_of bytes ≡ w ∷ [] → WholeNumber w n → ⊥
+TickContent bytes (Some c) = (w : List ℕ) × (n : ℕ) × (words_of bytes ≡ w ∷ []) × WholeNumber w n × (item_of c ≡ tick n)
 
 -- what a line says, if it says something
 abbrev pub ContentOf : List (List ℕ) → List ℕ → Option Content → Type 0
-ContentOf names line None = SaysNone names line
+ContentOf names line None = (i : Item) → LineSays names line i → ⊥
 ContentOf names line (Some c) = LineSays names line (item_of c)
 
--- small enough for a field
-abbrev pub FitsField : Item → Type 0
-FitsField (name w) = (0 < length w) × (length w ≤ 8)
-FitsField (rule text) = length text ≤ 65535
-FitsField (entry e) = Unit {0}
-FitsField (tick t) = Unit {0}
+-- what stands before a line, as the program holds it
+abbrev pub foregone : Before → Foregone
+foregone b = record { names = texts b.names.items; ruled = b.ruled; size = length b.case.items }
+
+-- small enough for a field, and for the bytes that a case has left
+abbrev pub FitsField : ℕ → Item → Type 0
+FitsField n (name w) = (0 < length w) × (length w ≤ 8) × (n + length w + 3 ≤ 16384)
+FitsField n (rule text) = n + length text + 3 ≤ 16384
+FitsField n (entry e) = n + 20 ≤ 16384
+FitsField n (tick t) = n + 7 ≤ 16384
 
 -- one more field stands behind the bytes, and says the item
 pub record AddsField (bytes : List ℕ) (i : Item) (after : List ℕ) : Type 0 where
@@ -67,16 +78,15 @@ pub record AddsField (bytes : List ℕ) (i : Item) (after : List ℕ) : Type 0 w
   pub put : after ≡ bytes ++ packed tag body
   pub says : Says tag body i
 
--- a line was taken: it was silent, and names and bytes are as they were, or it said an item
-pub record TookLine (names : List (List ℕ)) (bytes line : List ℕ) (i : Item) (names_after : List (List ℕ)) (after : List ℕ) : Type 0 where
-  pub says : LineSays names line i
-  pub kept : names_after ≡ names ++ named i
+-- a line was taken: it was silent, and nothing changed, or it said an item
+pub record TookLine (f : Foregone) (bytes line : List ℕ) (i : Item) (g : Foregone) (after : List ℕ) : Type 0 where
+  pub speaks : Speaks f line i
+  pub kept : g ≡ and_then f i
   pub adds : AddsField bytes i after
 
-pub data LineTaken (names : List (List ℕ)) (bytes line : List ℕ) (names_after : List (List ℕ)) (after : List ℕ) : Type 0 where
-  passed : Silent line → names_after ≡ names → after ≡ bytes → LineTaken names bytes line names_after after
-  took : (i : Item) → TookLine names bytes line i names_after after → LineTaken names bytes line names_after after
+pub data LineTaken (f : Foregone) (bytes line : List ℕ) (g : Foregone) (after : List ℕ) : Type 0 where
+  passed : Silent line → g ≡ f → after ≡ bytes → LineTaken f bytes line g after
+  took : (i : Item) → TookLine f bytes line i g after → LineTaken f bytes line g after
 
-abbrev pub LineRefused : List (List ℕ) → List ℕ → ℕ → PackFault → Type 0
-LineRefused names line number (BadLine n) = Bad names line × (n ≡ number)
-LineRefused names line number NoMemory = Unit {0}
+abbrev pub LineRefused : Foregone → List ℕ → ℕ → BadLine → Type 0
+LineRefused f line number b = Bad f line × (b.number ≡ number)

@@ -1,16 +1,9 @@
--- The words of a line: names, whole numbers and readings.
+-- The words of a line: whole numbers, readings, and names that were given.
 use Rattle.std.specs.Prelude.{◌≡◌, ℕ, ◌<◌, ◌≤◌, List, [], ◌∷◌, length, ℤ, pos, neg_ℤ, ◌≢◌, slice_index_or}
 use Rattle.std.specs.List.{AllByRecursion}
 use Rattle.tokens.specs.Words.{Digit, number_written}
 use Rattle.cases.specs.declared.field.Entry.{Entry}
-use Rattle.tokens.specs.Bytes.{Without}
 use Rattle.case_text.specs.Pieces.{words_of}
-
--- 1 to 8 bytes, none of them a space
-pub record LineName (w : List ℕ) : Type 0 where
-  pub some : 0 < length w
-  pub short : length w ≤ 8
-  pub plain : Without 32 w
 
 -- 1 to 10 digits; zeros may lead
 pub record Digits (w : List ℕ) : Type 0 where
@@ -46,7 +39,7 @@ pub record FirstNamed (names : List (List ℕ)) (w : List ℕ) (k : ℕ) : Type 
   pub same : slice_index_or names k [] ≡ w
   pub first : (j : ℕ) → j < k → slice_index_or names j [] ≢ w
 
--- five words with single spaces between them: a name, two whole numbers and two readings
+-- five words: a name, two whole numbers and two readings
 pub record WordsEnter (names : List (List ℕ)) (words : List ℕ) (e : Entry) : Type 0 where
   pub which : List ℕ
   pub begin : List ℕ

@@ -1,22 +1,24 @@
 // Putting fields behind one another.
-ghost use Rattle.std.specs.Prelude.{◌≡◌, ◌≤◌, ◌++◌, length, OnOk};
+ghost use Rattle.std.specs.Prelude.{◌≡◌, ◌+◌, ◌≤◌, ◌++◌, length};
 ghost use Rattle.cases.specs.Contents.{entry, tick, Says, item_of};
 ghost use Rattle.cases.specs.Laws.{packed};
 ghost use Rattle.case_text.specs.Parts.{FitsField, AddsField};
 
+use arrayvec::ArrayVec;
 use cases::field::{Content, ENTRY_BYTES, Entry, TICK_BYTES};
+use cases::stepping::CASE_BYTES;
 use cases::tag;
-use std::alloc::AllocError;
 
 // The tag, the length in two bytes, and the body.
-fn put_field(case: &mut Vec<u8>, tag: u8, body: &[u8]) -> Result<(), AllocError>
-    requires { length body.now ≤ 65535 }
-    ensures { OnOk result (case.new.items ≡ case.old.items ++ packed tag body.now) }
+fn put_field(case: &mut ArrayVec<u8, CASE_BYTES>, tag: u8, body: &[u8])
+    requires { length case.old.items + length body.now + 3 ≤ 16384 }
+    ensures { case.new.items ≡ case.old.items ++ packed tag body.now }
 {
     let [high, low] = (body.len() as u16).to_be_bytes();
-    case.extend_from_slice(&[tag, high, low])?;
-    case.extend_from_slice(body)?;
-    Ok(())
+    case.push(tag);
+    case.push(high);
+    case.push(low);
+    let _ = case.try_extend_from_slice(body);
 }
 
 fn tick_bytes(t: u32) -> [u8; TICK_BYTES]
@@ -40,9 +42,9 @@ fn entry_bytes(e: Entry) -> [u8; ENTRY_BYTES]
 }
 
 // Puts one more field behind the others.
-pub(crate) fn put(case: &mut Vec<u8>, content: Content<'_>) -> Result<(), AllocError>
-    requires { FitsField (item_of content) }
-    ensures { OnOk result (AddsField case.old.items (item_of content.entry) case.new.items) }
+pub(crate) fn put(case: &mut ArrayVec<u8, CASE_BYTES>, content: Content<'_>)
+    requires { FitsField (length case.old.items) (item_of content) }
+    ensures { AddsField case.old.items (item_of content.entry) case.new.items }
 {
     match content {
         Content::Name(word) => put_field(case, tag::NAME, word),

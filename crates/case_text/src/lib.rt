@@ -11,5 +11,5 @@ pub mod packing;
 pub mod split;
 pub mod word;
 
-pub use crate::fault::PackFault;
+pub use crate::fault::BadLine;
 pub use crate::packing::pack;

@@ -3,18 +3,13 @@ ghost use Rattle.std.specs.Prelude.{Decides};
 ghost use Rattle.tokens.specs.Answers.{texts};
 ghost use Rattle.case_text.specs.Words.{WordsEnter};
 ghost use Rattle.case_text.specs.Sayings.{Silent};
-ghost use Rattle.case_text.specs.Parts.{ValueRead, Five, ContentOf, NameContent, RuleContent};
+ghost use Rattle.case_text.specs.Parts.{ValueRead, Five, ContentOf, NameContent, TickContent};
 
 use crate::keyword::{Keyword, keyword_of};
 use crate::number::{reading, whole};
-use crate::split::split_at;
-use crate::word::{SPACE, is_line_name, line_of};
+use crate::split::{from_first, next_word, one_word, spoken_of};
+use crate::word::line_of;
 use cases::field::{Content, Entry};
-
-const COMMENT: u8 = b'#';
-
-// The most bytes of a rule, since a field has no more.
-const RULE_BYTES: usize = 65_535;
 
 /// The words of an entry.
 #[derive(Clone, Copy)]
@@ -26,26 +21,23 @@ pub struct EntryWords<'a> {
     pub high: &'a [u8],
 }
 
-/// Whether the line means nothing: it is empty, or a comment.
+/// Whether the line has no words.
 pub fn is_silent(line: &[u8]) -> bool
     ensures { Decides result (Silent line.now) }
 {
-    match line {
-        [] => true,
-        [first, ..] => *first == COMMENT,
-    }
+    next_word(spoken_of(line)).is_none()
 }
 
-fn name_of<'a>(word: &'a [u8]) -> Option<Content<'a>>
-    ensures { NameContent word.now result }
+fn name_of<'a>(bytes: &'a [u8]) -> Option<Content<'a>>
+    ensures { NameContent bytes.now result }
 {
-    is_line_name(word).then_some(Content::Name(word))
+    Some(Content::Name(one_word(bytes)?))
 }
 
-fn rule_of<'a>(text: &'a [u8]) -> Option<Content<'a>>
-    ensures { RuleContent text.now result }
+fn tick_of<'a>(bytes: &'a [u8]) -> Option<Content<'a>>
+    ensures { TickContent bytes.now result }
 {
-    (text.len() <= RULE_BYTES).then_some(Content::Rule(text))
+    Some(Content::Tick(whole(one_word(bytes)?)?))
 }
 
 /// The five words, if there are five.
@@ -53,11 +45,12 @@ fn rule_of<'a>(text: &'a [u8]) -> Option<Content<'a>>
 pub fn five_words<'a>(words: &'a [u8]) -> Option<EntryWords<'a>>
     ensures { Five words.now result }
 {
-    let one = split_at(words, SPACE)?;
-    let two = split_at(one.rest, SPACE)?;
-    let three = split_at(two.rest, SPACE)?;
-    let four = split_at(three.rest, SPACE)?;
-    let None = split_at(four.rest, SPACE) else {
+    let one = next_word(words)?;
+    let two = next_word(one.rest)?;
+    let three = next_word(two.rest)?;
+    let four = next_word(three.rest)?;
+    let five = next_word(four.rest)?;
+    let None = next_word(five.rest) else {
         return None;
     };
     Some(EntryWords {
@@ -65,7 +58,7 @@ pub fn five_words<'a>(words: &'a [u8]) -> Option<EntryWords<'a>>
         begin: two.front,
         end: three.front,
         low: four.front,
-        high: four.rest,
+        high: five.front,
     })
 }
 
@@ -92,11 +85,11 @@ fn entry_of(names: &[&[u8]], words: &[u8]) -> Option<Entry>
 pub(crate) fn content_of<'a>(names: &[&[u8]], line: &'a [u8]) -> Option<Content<'a>>
     ensures { ContentOf (texts names.now) line.now result }
 {
-    let split = split_at(line, SPACE)?;
+    let split = next_word(spoken_of(line))?;
     match keyword_of(split.front)? {
         Keyword::Line => name_of(split.rest),
-        Keyword::Rule => rule_of(split.rest),
+        Keyword::Rule => Some(Content::Rule(from_first(split.rest))),
         Keyword::Enter => Some(Content::Entry(entry_of(names, split.rest)?)),
-        Keyword::Tick => Some(Content::Tick(whole(split.rest)?)),
+        Keyword::Tick => tick_of(split.rest),
     }
 }

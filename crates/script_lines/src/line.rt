@@ -4,8 +4,7 @@ use crate::step::GradeKind;
 use crate::words::{kind_of, named_line, up_to};
 use case_text::line::five_words;
 use case_text::number::{reading, whole};
-use case_text::split::split_at;
-use case_text::word::SPACE;
+use case_text::split::{from_first, next_word, one_word, spoken_of};
 use cases::field::Entry;
 use scripts::call::Portion;
 
@@ -43,30 +42,41 @@ fn entry_of(names: &[&[u8]], words: &[u8]) -> Option<Entry> {
 }
 
 fn portion_of(words: &[u8]) -> Option<Portion> {
-    let rows = split_at(words, SPACE)?;
-    let wants = split_at(rows.rest, SPACE)?;
+    let rows = next_word(words)?;
+    let wants = next_word(rows.rest)?;
+    let marks = one_word(wants.rest)?;
     Some(Portion {
         rows: up_to(rows.front, MOST_ROWS)? as usize,
         wants: up_to(wants.front, MOST_WANTS)? as usize,
-        marks: up_to(wants.rest, MOST_MARKS)? as usize,
+        marks: up_to(marks, MOST_MARKS)? as usize,
     })
 }
 
 // A kind of grade and a tick.
 fn moment_of(words: &[u8]) -> Option<(GradeKind, u32)> {
-    let split = split_at(words, SPACE)?;
-    Some((kind_of(split.front)?, whole(split.rest)?))
+    let kind = next_word(words)?;
+    let tick = one_word(kind.rest)?;
+    Some((kind_of(kind.front)?, whole(tick)?))
 }
 
-// What a line with more than one word asks.
-fn long_ask<'t>(names: &[&[u8]], keyword: Keyword, words: &'t [u8]) -> Option<Ask<'t>> {
-    match keyword {
-        Keyword::Line => Some(Ask::Name(words)),
-        Keyword::Rule => Some(Ask::Rule(words)),
+// The ask, if no words follow.
+fn alone<'t>(words: &[u8], ask: Ask<'t>) -> Option<Ask<'t>> {
+    next_word(words).is_none().then_some(ask)
+}
+
+// What the line asks over lines with these names.
+pub(crate) fn ask_of<'t>(names: &[&[u8]], line: &'t [u8]) -> Option<Ask<'t>> {
+    let split = next_word(spoken_of(line))?;
+    let words = split.rest;
+    match keyword_of(split.front)? {
+        Keyword::Line => Some(Ask::Name(one_word(words)?)),
+        Keyword::Rule => Some(Ask::Rule(from_first(words))),
         Keyword::Enter => Some(Ask::Enter(entry_of(names, words)?)),
         Keyword::Known => Some(Ask::Known {
-            line: named_line(names, words)?,
+            line: named_line(names, one_word(words)?)?,
         }),
+        Keyword::Tally => alone(words, Ask::Tally),
+        Keyword::Seal => alone(words, Ask::Seal),
         Keyword::Cells => Some(Ask::Cells(portion_of(words)?)),
         Keyword::Judge => {
             let (kind, tick) = moment_of(words)?;
@@ -77,28 +87,10 @@ fn long_ask<'t>(names: &[&[u8]], keyword: Keyword, words: &'t [u8]) -> Option<As
             Some(Ask::Mark { kind, tick })
         }
         Keyword::Show => Some(Ask::Show {
-            count: up_to(words, MOST_ROWS)? as usize,
+            count: up_to(one_word(words)?, MOST_ROWS)? as usize,
         }),
         Keyword::Wants => Some(Ask::Wants {
-            count: up_to(words, MOST_WANTS)? as usize,
+            count: up_to(one_word(words)?, MOST_WANTS)? as usize,
         }),
-        Keyword::Tally | Keyword::Seal => None,
-    }
-}
-
-// What a line of one word asks.
-fn short_ask<'t>(word: &[u8]) -> Option<Ask<'t>> {
-    match keyword_of(word)? {
-        Keyword::Tally => Some(Ask::Tally),
-        Keyword::Seal => Some(Ask::Seal),
-        _ => None,
-    }
-}
-
-// What the line asks over lines with these names.
-pub(crate) fn ask_of<'t>(names: &[&[u8]], line: &'t [u8]) -> Option<Ask<'t>> {
-    match split_at(line, SPACE) {
-        Some(split) => long_ask(names, keyword_of(split.front)?, split.rest),
-        None => short_ask(line),
     }
 }
