@@ -1,23 +1,22 @@
 -- The guard's text is read as its rows.
-use Rattle.std.proofs.Common.{◌≡◌, ℕ, ◌<◌, ◌≤◌, List, [], ◌∷◌, get_or, Some, Ok, codes, negsuc, sym, refl, ap, subst, inl, inr, arith}
+use Rattle.std.proofs.Common.{◌≡◌, ℕ, ◌<◌, ◌≤◌, List, [], ◌∷◌, get_or, Some, Ok, codes, sym, refl, ap, subst, inl, inr, arith}
 use Rattle.std.specs.Prelude.{slice_index_or}
 use Rattle.tokens.specs.declared.token.Token.{Token}
-use Rattle.tokens.specs.declared.token.Token.TheVariants.{Or, And, Not, Open, Close, Left, Right, Comma, Minus, Always, Eventually, Until, AtLeast, AtMost, Name, Number}
-use Rattle.tokens.specs.Words.{Small, Digit, NameByte, FirstByte, IsName, IsNumber, Named}
-use Rattle.tokens.specs.Splits.{ReadsWords, nothing, Split}
+use Rattle.tokens.specs.declared.token.Token.TheVariants.{Or, Open, Close, Left, Right, Comma, Always, AtLeast, AtMost, Name, Number}
+use Rattle.tokens.specs.Words.{IsName, IsNumber, Named}
+use Rattle.tokens.specs.Splits.{nothing, Split}
 use Rattle.rules.specs.declared.row.Side.TheVariants as side
-use Rattle.rules.specs.Grammar.{window, part, expr, Phrase, span, plain, minus, test, modal, brackets, until, one_part, one_meet, either, Derives}
+use Rattle.rules.specs.Grammar.{window, part, expr, Phrase, span, plain, test, modal, brackets, one_part, one_meet, either, Derives}
 use Rattle.rules.specs.Texts.{Answered, parsed, derived}
 use Rattle.rules.proofs.Machine.{State, win0, modal_window, top, start, step, one_reading}
 use Rattle.meaning.specs.Cases.{guard}
 use Rattle.worked_cases.specs.RuleTexts.{hot_and_flow, guard_text}
-use Rattle.worked_cases.proofs.Words.{sign, line_name, number}
+use Rattle.worked_cases.proofs.Words.{sign_word, name_word, number_word}
 
-
-number_0 : IsNumber (codes "0")
+pub number_0 : IsNumber (codes "0")
 number_0 = record { digit = (omega arith, omega arith); all = ((omega arith, omega arith), tt); short = omega arith; plain = λ e. refl }
 
-number_3 : IsNumber (codes "3")
+pub number_3 : IsNumber (codes "3")
 number_3 = record { digit = (omega arith, omega arith); all = ((omega arith, omega arith), tt); short = omega arith; plain = λ e. absurd (omega arith) }
 
 pub name_flow : IsName (codes "flow")
@@ -56,21 +55,21 @@ abbrev guard_tokens : List Token
 guard_tokens = Always ∷ (Left ∷ (Number 0 ∷ (Comma ∷ (Number 3 ∷ (Right ∷ (Open ∷ (Name (Some 1) ∷ (AtMost ∷ (Number 0 ∷ (Or ∷ (Name (Some 0) ∷ (AtLeast ∷ (Number 1800 ∷ (Close ∷ []))))))))))))))
 
 guard_split : Split hot_and_flow guard_text guard_places guard_tokens
-guard_split = sign 0 71 [] (codes "[0,3](flow<=0|hot>=1800)") Always refl (λ s. omega arith) (λ d. omega arith)
-  (sign 1 91 [] (codes "0,3](flow<=0|hot>=1800)") Left refl (λ s. omega arith) (λ d. omega arith)
-  (number 2 0 (codes "0") (codes ",3](flow<=0|hot>=1800)") number_0 refl (λ s. omega arith) (λ d. omega arith)
-  (sign 3 44 [] (codes "3](flow<=0|hot>=1800)") Comma refl (λ s. omega arith) (λ d. omega arith)
-  (number 4 3 (codes "3") (codes "](flow<=0|hot>=1800)") number_3 refl (λ s. omega arith) (λ d. omega arith)
-  (sign 5 93 [] (codes "(flow<=0|hot>=1800)") Right refl (λ s. omega arith) (λ d. omega arith)
-  (sign 6 40 [] (codes "flow<=0|hot>=1800)") Open refl (λ s. omega arith) (λ d. omega arith)
-  (line_name 7 1 (codes "flow") (codes "<=0|hot>=1800)") name_flow named_flow (λ d. omega arith) (λ b. elim b [ inl s ↦ omega arith | inr d ↦ omega arith ])
-  (sign 11 60 (61 ∷ []) (codes "0|hot>=1800)") AtMost refl (λ s. omega arith) (λ d. omega arith)
-  (number 13 0 (codes "0") (codes "|hot>=1800)") number_0 refl (λ s. omega arith) (λ d. omega arith)
-  (sign 14 124 [] (codes "hot>=1800)") Or refl (λ s. omega arith) (λ d. omega arith)
-  (line_name 15 0 (codes "hot") (codes ">=1800)") name_hot named_hot (λ d. omega arith) (λ b. elim b [ inl s ↦ omega arith | inr d ↦ omega arith ])
-  (sign 18 62 (61 ∷ []) (codes "1800)") AtLeast refl (λ s. omega arith) (λ d. omega arith)
-  (number 20 1800 (codes "1800") (codes ")") number_1800 refl (λ s. omega arith) (λ d. omega arith)
-  (sign 24 41 [] [] Close refl (λ s. omega arith) (λ d. omega arith) nothing))))))))))))))
+guard_split = sign_word 0 71 [] (codes "[0,3](flow<=0|hot>=1800)") Always refl (λ s. omega arith) (λ d. omega arith)
+    (sign_word 1 91 [] (codes "0,3](flow<=0|hot>=1800)") Left refl (λ s. omega arith) (λ d. omega arith)
+    (number_word 2 0 (codes "0") (codes ",3](flow<=0|hot>=1800)") number_0 refl (λ s. omega arith) (λ d. omega arith)
+    (sign_word 3 44 [] (codes "3](flow<=0|hot>=1800)") Comma refl (λ s. omega arith) (λ d. omega arith)
+    (number_word 4 3 (codes "3") (codes "](flow<=0|hot>=1800)") number_3 refl (λ s. omega arith) (λ d. omega arith)
+    (sign_word 5 93 [] (codes "(flow<=0|hot>=1800)") Right refl (λ s. omega arith) (λ d. omega arith)
+    (sign_word 6 40 [] (codes "flow<=0|hot>=1800)") Open refl (λ s. omega arith) (λ d. omega arith)
+    (name_word 7 1 (codes "flow") (codes "<=0|hot>=1800)") name_flow named_flow (λ d. omega arith) (λ b. elim b [ inl s ↦ omega arith | inr d ↦ omega arith ])
+    (sign_word 11 60 (61 ∷ []) (codes "0|hot>=1800)") AtMost refl (λ s. omega arith) (λ d. omega arith)
+    (number_word 13 0 (codes "0") (codes "|hot>=1800)") number_0 refl (λ s. omega arith) (λ d. omega arith)
+    (sign_word 14 124 [] (codes "hot>=1800)") Or refl (λ s. omega arith) (λ d. omega arith)
+    (name_word 15 0 (codes "hot") (codes ">=1800)") name_hot named_hot (λ d. omega arith) (λ b. elim b [ inl s ↦ omega arith | inr d ↦ omega arith ])
+    (sign_word 18 62 (61 ∷ []) (codes "1800)") AtLeast refl (λ s. omega arith) (λ d. omega arith)
+    (number_word 20 1800 (codes "1800") (codes ")") number_1800 refl (λ s. omega arith) (λ d. omega arith)
+    (sign_word 24 41 [] [] Close refl (λ s. omega arith) (λ d. omega arith) nothing))))))))))))))
 
 -- the part p behind what stands before a window
 abbrev behind_window : Phrase window → Phrase part → State → Phrase part

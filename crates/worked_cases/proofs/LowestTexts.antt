@@ -1,18 +1,16 @@
 -- The texts of the tests at the lowest readings are read as their rows.
-use Rattle.std.proofs.Common.{◌≡◌, ℕ, ◌<◌, ◌≤◌, List, [], ◌∷◌, get_or, Some, Ok, codes, negsuc, sym, refl, ap, subst, inl, inr, arith}
-use Rattle.std.specs.Prelude.{slice_index_or}
+use Rattle.std.proofs.Common.{ℕ, ◌<◌, ◌≤◌, List, [], ◌∷◌, Some, Ok, codes, negsuc, sym, refl, inl, inr, arith}
 use Rattle.tokens.specs.declared.token.Token.{Token}
-use Rattle.tokens.specs.declared.token.Token.TheVariants.{Or, And, Not, Open, Close, Left, Right, Comma, Minus, Always, Eventually, Until, AtLeast, AtMost, Name, Number}
-use Rattle.tokens.specs.Words.{Small, Digit, NameByte, FirstByte, IsName, IsNumber, Named}
-use Rattle.tokens.specs.Splits.{ReadsWords, nothing, Split}
+use Rattle.tokens.specs.declared.token.Token.TheVariants.{Minus, AtLeast, Name, Number}
+use Rattle.tokens.specs.Words.{IsName, IsNumber, Named}
+use Rattle.tokens.specs.Splits.{nothing, Split}
 use Rattle.rules.specs.declared.row.Side.TheVariants as side
-use Rattle.rules.specs.Grammar.{expr, Phrase, span, plain, minus, test, modal, brackets, until, one_part, one_meet, either, Derives}
+use Rattle.rules.specs.Grammar.{expr, Phrase, minus, test, one_part, one_meet, Derives}
 use Rattle.rules.specs.Texts.{Answered, parsed, derived}
 use Rattle.rules.proofs.Machine.{one_reading}
 use Rattle.meaning.specs.Cases.{at_least}
 use Rattle.worked_cases.specs.RuleTexts.{only_a, lowest_text, above_text}
-use Rattle.worked_cases.proofs.Words.{sign, line_name, number}
-
+use Rattle.worked_cases.proofs.Words.{sign_word, name_word, number_word}
 
 name_a : IsName (codes "a")
 name_a = record { letter = (omega arith, omega arith); all = (inl (omega arith, omega arith), tt); short = omega arith }
@@ -35,10 +33,10 @@ abbrev lowest_tokens : List Token
 lowest_tokens = Name (Some 0) ∷ (AtLeast ∷ (Minus ∷ (Number 500000 ∷ [])))
 
 lowest_split : Split only_a lowest_text lowest_places lowest_tokens
-lowest_split = line_name 0 0 (codes "a") (codes ">=-500000") name_a named_a (λ d. omega arith) (λ b. elim b [ inl s ↦ omega arith | inr d ↦ omega arith ])
-  (sign 1 62 (61 ∷ []) (codes "-500000") AtLeast refl (λ s. omega arith) (λ d. omega arith)
-  (sign 3 45 [] (codes "500000") Minus refl (λ s. omega arith) (λ d. omega arith)
-  (number 4 500000 (codes "500000") [] number_500000 refl (λ s. omega arith) (λ d. d) nothing)))
+lowest_split = name_word 0 0 (codes "a") (codes ">=-500000") name_a named_a (λ d. omega arith) (λ b. elim b [ inl s ↦ omega arith | inr d ↦ omega arith ])
+    (sign_word 1 62 (61 ∷ []) (codes "-500000") AtLeast refl (λ s. omega arith) (λ d. omega arith)
+    (sign_word 3 45 [] (codes "500000") Minus refl (λ s. omega arith) (λ d. omega arith)
+    (number_word 4 500000 (codes "500000") [] number_500000 refl (λ s. omega arith) (λ d. d) nothing)))
 
 abbrev lowest_phrase : Phrase expr
 lowest_phrase = one_meet (one_part (test (Some 0) side.AtLeast (minus 500000)))
@@ -65,10 +63,10 @@ abbrev above_tokens : List Token
 above_tokens = Name (Some 0) ∷ (AtLeast ∷ (Minus ∷ (Number 499999 ∷ [])))
 
 above_split : Split only_a above_text above_places above_tokens
-above_split = line_name 0 0 (codes "a") (codes ">=-499999") name_a named_a (λ d. omega arith) (λ b. elim b [ inl s ↦ omega arith | inr d ↦ omega arith ])
-  (sign 1 62 (61 ∷ []) (codes "-499999") AtLeast refl (λ s. omega arith) (λ d. omega arith)
-  (sign 3 45 [] (codes "499999") Minus refl (λ s. omega arith) (λ d. omega arith)
-  (number 4 499999 (codes "499999") [] number_499999 refl (λ s. omega arith) (λ d. d) nothing)))
+above_split = name_word 0 0 (codes "a") (codes ">=-499999") name_a named_a (λ d. omega arith) (λ b. elim b [ inl s ↦ omega arith | inr d ↦ omega arith ])
+    (sign_word 1 62 (61 ∷ []) (codes "-499999") AtLeast refl (λ s. omega arith) (λ d. omega arith)
+    (sign_word 3 45 [] (codes "499999") Minus refl (λ s. omega arith) (λ d. omega arith)
+    (number_word 4 499999 (codes "499999") [] number_499999 refl (λ s. omega arith) (λ d. d) nothing)))
 
 abbrev above_phrase : Phrase expr
 above_phrase = one_meet (one_part (test (Some 0) side.AtLeast (minus 499999)))

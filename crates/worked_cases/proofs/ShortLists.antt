@@ -1,5 +1,5 @@
 -- A function that changes no more from some tick on has a short list.
-use Rattle.std.proofs.Common.{◌≡◌, ℕ, zero, suc, ◌+◌, ◌-◌, ◌*◌, ◌<◌, ◌≤◌, List, [], ◌∷◌, ◌++◌, length, get_or, Some, None, Option, sym, refl, ◌∙◌, arith}
+use Rattle.std.proofs.Common.{◌≡◌, ℕ, suc, ◌+◌, ◌-◌, ◌*◌, ◌<◌, ◌≤◌, List, [], ◌∷◌, length, get_or, None, sym, ◌∙◌, arith}
 use native.Mathlib.Decide.{dec_le}
 use Rattle.std.proofs.lemmas.List.{length-append}
 use Rattle.pieces.specs.declared.piece.Piece.{Piece}
@@ -17,9 +17,9 @@ module _ {C : Type 0} (f : ℕ → C) (end : ℕ) (flat : (t : ℕ) → end ≤ 
   few_behind : (p : Piece C) (qs : List (Piece C)) → p.start ≤ end → Chain f p qs None → length qs + p.start ≤ end
   few_behind p [] l c = omega (arith, l)
   few_behind p (q ∷ qs) l c = elim (dec_le q.start end) [
-      | yes near ↦ let m = few_behind q qs near c.2 in omega (arith, c.0.0)
-      | no n ↦ absurd (c.1 (c.0.1 (q.start - 1) (omega (arith, c.0.0)) (omega (arith, c.0.0)) ∙ flat (q.start - 1) (omega arith) ∙ sym (head_is q qs c.2 ∙ flat q.start (omega arith))))
-    ]
+    | yes near ↦ let m = few_behind q qs near c.2 in omega (arith, c.0.0)
+    | no n ↦ absurd (c.1 (c.0.1 (q.start - 1) (omega (arith, c.0.0)) (omega (arith, c.0.0)) ∙ flat (q.start - 1) (omega arith) ∙ sym (head_is q qs c.2 ∙ flat q.start (omega arith))))
+  ]
 
   pub short_list : (ps : List (Piece C)) → Lists f ps → length ps ≤ suc end
   short_list [] l = omega arith

@@ -3,12 +3,12 @@ use Rattle.std.proofs.Common.{◌≡◌, ℕ, ◌+◌, ◌<◌, ◌≤◌, List,
 use Rattle.std.specs.Prelude.{slice_index_or}
 use Rattle.cases.specs.declared.field.Entry.{Entry}
 use Rattle.cases.specs.Fields.{Leads}
-use Rattle.cases.specs.Contents.{Item, name, rule, entry, tick, Says, a_name, a_rule, an_entry, a_tick}
-use Rattle.cases.specs.Orders.{Repeated, Admits}
+use Rattle.cases.specs.Contents.{Item, entry, tick, Says, a_name, a_rule, an_entry, a_tick}
+use Rattle.cases.specs.Orders.{Admits}
 use Rattle.cases.specs.Headings.{OpenedCase, Opens, named, ruled}
 use Rattle.cases.specs.Steps.{Stepped, Steps, ended, step}
 use Rattle.meaning.specs.Cases.{guard}
-use Rattle.worked_cases.specs.RuleTexts.{hot_and_flow, guard_text}
+use Rattle.worked_cases.specs.RuleTexts.{guard_text}
 use Rattle.worked_cases.specs.WorkedCase.{flow_field, rule_field, hot_entry, dry_entry, flow_entry, tick_field, finer_entry, wider_entry, worked_bytes}
 use Rattle.worked_cases.proofs.GuardText.{name_hot, name_flow, guard_read}
 
@@ -193,5 +193,5 @@ wider_says = an_entry refl refl refl
 pub wider_step : Steps 10 wider_entry (Ok (Some wider_call))
 wider_step = step wider_leads wider_says tt refl
 
-pub no_more : Steps 11 [] (Ok None)
-no_more = ended refl refl
+pub fields_end : Steps 11 [] (Ok None)
+fields_end = ended refl refl

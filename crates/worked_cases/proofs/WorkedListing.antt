@@ -1,12 +1,9 @@
 -- The listing of the worked case.
-use Rattle.std.proofs.Common.{◌≡◌, ℕ, ◌<◌, ◌≤◌, zero, suc, List, [], ◌∷◌, length, pos, None, Ok, Err, sym, refl, subst, arith}
+use Rattle.std.proofs.Common.{◌≡◌, ◌≤◌, zero, suc, List, [], ◌∷◌, length, pos, Ok, Err, sym, refl, subst, arith}
 use Rattle.std.specs.Fmt.{digits}
 use Rattle.grades.specs.Kinds.{Kind}
 use Rattle.grades.specs.Truths.{truths}
 use Rattle.grades.specs.Margins.{margins}
-use Rattle.grades.specs.Lawful.{truths_lawful}
-use Rattle.rules.specs.Rows.{row_at}
-use Rattle.rules.specs.Tested.{Tests}
 use Rattle.meaning.specs.declared.mark.Mark.{Mark}
 use Rattle.meaning.specs.Readings.{Readings}
 use Rattle.meaning.specs.Values.{over, until_at, step, values, value}
@@ -17,14 +14,13 @@ use Rattle.meaning.proofs.Samples.{forecast_marks, refined_marks}
 use Rattle.meaning.proofs.Pinned.{lists_same}
 use Rattle.runs.specs.Jobs.{accepted}
 use Rattle.runs.specs.States.{State, readings_of}
-use Rattle.runs.specs.Calls.{HasLines, judge_asks, mark_asks, JudgeTurn, MarkedVerdict, MarkTurn}
+use Rattle.runs.specs.Calls.{HasLines, judge_asks, mark_asks, JudgeTurn, MarkTurn}
 use Rattle.runs.proofs.Conditions.{none_failing}
-use Rattle.cases.specs.Steps.{Sized}
-use Rattle.case_lines.specs.Listings.{Does, ListsFields, ticks, enters, verdict, ended, does, Listing, lent_cells, listed}
+use Rattle.case_lines.specs.Listings.{ticks, enters, verdict, ended, does, Listing, lent_cells, listed}
 use Rattle.worked_cases.specs.WorkedCase.{worked_bytes, worked_lines}
-use Rattle.worked_cases.proofs.GuardLists.{WidestFromTen, rows_fit, wants_fit}
-use Rattle.worked_cases.proofs.WorkedStates.{state_of_lines, flow_entered, finer_entered, hot_turn, dry_turn, flow_turn, finer_turn, wider_turn, flow_late, finer_late, flow_is_forecast, finer_is_refined}
-use Rattle.worked_cases.proofs.WorkedFields.{worked_opened, worked_opens, entry_of, hot_call, dry_call, flow_call, first_tick_call, finer_call, second_tick_call, wider_call, hot_step, dry_step, flow_step, first_tick_step, finer_step, second_tick_step, wider_step, no_more}
+use Rattle.worked_cases.proofs.GuardLists.{WidestFromTen, guard_rows_fit, guard_wants_fit}
+use Rattle.worked_cases.proofs.WorkedStates.{flow_entered, finer_entered, hot_turn, dry_turn, flow_turn, finer_turn, wider_turn, flow_late, finer_late, flow_is_forecast, finer_is_refined}
+use Rattle.worked_cases.proofs.WorkedFields.{worked_opened, worked_opens, entry_of, hot_call, dry_call, flow_call, first_tick_call, finer_call, second_tick_call, wider_call, hot_step, dry_step, flow_step, first_tick_step, finer_step, second_tick_step, wider_step, fields_end}
 
 module _ (s : State) (two : length s.lines ≡ 2) (late : WidestFromTen (readings_of s)) where
   has_lines : HasLines s guard
@@ -34,15 +30,15 @@ module _ (s : State) (two : length s.lines ≡ 2) (late : WidestFromTen (reading
   has_lines (suc (suc (suc zero))) line l t = absurd t
   has_lines (suc (suc (suc (suc k)))) line l t = absurd (omega arith)
 
-  judged : (K : Kind) → JudgeTurn K s guard 0 1024 (Ok (verdict_of K guard (readings_of s) 0))
-  judged K = (none_failing (judge_asks K s guard 0 1024 []) (has_lines, (omega arith, (rows_fit K (readings_of s) late, tt))), refl)
+  guard_judged : (K : Kind) → JudgeTurn K s guard 0 1024 (Ok (verdict_of K guard (readings_of s) 0))
+  guard_judged K = (none_failing (judge_asks K s guard 0 1024 []) (has_lines, (omega arith, (guard_rows_fit K (readings_of s) late, tt))), refl)
 
   few_marks : (ms : List Mark) → length ms ≤ 256 → Marks truths guard (readings_of s) 0 ms → (ns : List Mark) → Marks truths guard (readings_of s) 0 ns → length ns ≤ 256
   few_marks ms few is ns h = subst (λ (v : List Mark). length v ≤ 256) (lists_same {P = Marked truths guard (readings_of s) 0} ms ns is h) few
 
-  marked : (ms : List Mark) → length ms ≤ 256 → Marks truths guard (readings_of s) 0 ms → MarkTurn truths s guard 0 1024 1024 256 (Ok (record { verdict = verdict_of truths guard (readings_of s) 0; marks = ms }))
-  marked ms few is = (
-    none_failing (judge_asks truths s guard 0 1024 (mark_asks truths s guard 0 1024 256)) (has_lines, (omega arith, (rows_fit truths (readings_of s) late, (wants_fit truths (readings_of s) late, (few_marks ms few is, tt))))),
+  guard_marked : (ms : List Mark) → length ms ≤ 256 → Marks truths guard (readings_of s) 0 ms → MarkTurn truths s guard 0 1024 1024 256 (Ok (record { verdict = verdict_of truths guard (readings_of s) 0; marks = ms }))
+  guard_marked ms few is = (
+    none_failing (judge_asks truths s guard 0 1024 (mark_asks truths s guard 0 1024 256)) (has_lines, (omega arith, (guard_rows_fit truths (readings_of s) late, (guard_wants_fit truths (readings_of s) late, (few_marks ms few is, tt))))),
     refl,
     is,
   )
@@ -68,12 +64,12 @@ short_case = omega arith
 pub worked_listed : Listing (lent_cells 1024 1024 1024 1024 256) worked_bytes worked_lines
 unfolding over until_at step values value digits
 worked_listed = listed worked_opened short_case worked_opens
-  (does hot_call hot_step (enters (entry_of 0 0 10 (pos 1750) (pos 1900)) refl (record { reply = Ok accepted; turn = hot_turn; prints = refl }))
-  (does dry_call dry_step (enters (entry_of 1 0 2 (pos 0) (pos 0)) refl (record { reply = Ok accepted; turn = dry_turn; prints = refl }))
-  (does flow_call flow_step (enters (entry_of 1 2 10 (pos 0) (pos 40)) refl (record { reply = Ok accepted; turn = flow_turn; prints = refl }))
-  (does first_tick_call first_tick_step (ticks 0 refl (verdict _ _ _ (judged flow_entered refl flow_late truths) (judged flow_entered refl flow_late margins) (marked flow_entered refl flow_late two_marks few_two flow_marks) refl) refl)
-  (does finer_call finer_step (enters (entry_of 0 2 4 (pos 1800) (pos 1850)) refl (record { reply = Ok accepted; turn = finer_turn; prints = refl }))
-  (does second_tick_call second_tick_step (ticks 0 refl (verdict _ _ _ (judged finer_entered refl finer_late truths) (judged finer_entered refl finer_late margins) (marked finer_entered refl finer_late [] few_none finer_marks) refl) refl)
-  (does wider_call wider_step (enters (entry_of 0 2 4 (pos 1700) (pos 1900)) refl (record { reply = Err 5; turn = wider_turn; prints = refl }))
-  (ended no_more refl)
-  refl) refl) refl) refl) refl) refl) refl)
+    (does hot_call hot_step (enters (entry_of 0 0 10 (pos 1750) (pos 1900)) refl (record { reply = Ok accepted; turn = hot_turn; prints = refl }))
+    (does dry_call dry_step (enters (entry_of 1 0 2 (pos 0) (pos 0)) refl (record { reply = Ok accepted; turn = dry_turn; prints = refl }))
+    (does flow_call flow_step (enters (entry_of 1 2 10 (pos 0) (pos 40)) refl (record { reply = Ok accepted; turn = flow_turn; prints = refl }))
+    (does first_tick_call first_tick_step (ticks 0 refl (verdict _ _ _ (guard_judged flow_entered refl flow_late truths) (guard_judged flow_entered refl flow_late margins) (guard_marked flow_entered refl flow_late two_marks few_two flow_marks) refl) refl)
+    (does finer_call finer_step (enters (entry_of 0 2 4 (pos 1800) (pos 1850)) refl (record { reply = Ok accepted; turn = finer_turn; prints = refl }))
+    (does second_tick_call second_tick_step (ticks 0 refl (verdict _ _ _ (guard_judged finer_entered refl finer_late truths) (guard_judged finer_entered refl finer_late margins) (guard_marked finer_entered refl finer_late [] few_none finer_marks) refl) refl)
+    (does wider_call wider_step (enters (entry_of 0 2 4 (pos 1700) (pos 1900)) refl (record { reply = Err 5; turn = wider_turn; prints = refl }))
+    (ended fields_end refl)
+    refl) refl) refl) refl) refl) refl) refl)

@@ -1,5 +1,5 @@
 -- The job's states along the worked case, and the entries that lead from one to the next.
-use Rattle.std.proofs.Common.{◌≡◌, ℕ, zero, suc, ◌<◌, ◌≤◌, Bool, true, false, cond, ◌⊎◌, List, [], ◌∷◌, ℤ, ◌≤ℤ◌, pos, negsuc, Some, None, Ok, Err, Option, sym, refl, ap, ◌∙◌, subst, inl, inr, arith, le-leb, ◌≢◌}
+use Rattle.std.proofs.Common.{◌≡◌, ℕ, zero, suc, ◌<◌, ◌≤◌, true, false, cond, ◌⊎◌, List, [], ◌∷◌, ℤ, ◌≤ℤ◌, pos, negsuc, Some, Ok, Err, sym, refl, ap, ◌∙◌, subst, inl, inr, arith, le-leb, ◌≢◌}
 use Rattle.std.proofs.lemmas.Int.{ints}
 use Rattle.std.specs.Prelude.{int_le}
 use borrow.Author.Tests.{clash}
@@ -11,7 +11,6 @@ use Rattle.meaning.specs.declared.reading.Reading.{Reading}
 use Rattle.meaning.specs.Readings.{Readings, ReadingEnds, ReadingWith, widest, Within, entered}
 use Rattle.meaning.specs.Cases.{reading_with, nothing_entered, forecast, refined}
 use Rattle.meaning.proofs.Readings.{entered_elsewhere}
-use Rattle.runs.specs.Conditions.{FirstFailing}
 use Rattle.runs.specs.Jobs.{accepted, enter, Narrows, FitsLine, enter_asks, JobTurn}
 use Rattle.runs.specs.States.{State, reading_at, readings_of, opened}
 use Rattle.runs.proofs.Conditions.{none_failing}
@@ -34,23 +33,23 @@ dry = reading_with (pos 0) (pos 0) tt tt tt tt tt
 abbrev flowing : Reading
 flowing = reading_with (pos 0) (pos 40) tt tt tt tt tt
 
-abbrev piece : ℕ → Reading → Piece Reading
-piece n r = record { start = n; value = r }
+abbrev piece_from : ℕ → Reading → Piece Reading
+piece_from n r = record { start = n; value = r }
 
-abbrev unknown : List (Piece Reading)
-unknown = piece 0 widest ∷ []
+abbrev nothing_known : List (Piece Reading)
+nothing_known = piece_from 0 widest ∷ []
 
 abbrev hot_known : List (Piece Reading)
-hot_known = piece 0 hot_wide ∷ piece 10 widest ∷ []
+hot_known = piece_from 0 hot_wide ∷ piece_from 10 widest ∷ []
 
 abbrev hot_known_finer : List (Piece Reading)
-hot_known_finer = piece 0 hot_wide ∷ piece 2 hot_fine ∷ piece 4 hot_wide ∷ piece 10 widest ∷ []
+hot_known_finer = piece_from 0 hot_wide ∷ piece_from 2 hot_fine ∷ piece_from 4 hot_wide ∷ piece_from 10 widest ∷ []
 
 abbrev dry_known : List (Piece Reading)
-dry_known = piece 0 dry ∷ piece 2 widest ∷ []
+dry_known = piece_from 0 dry ∷ piece_from 2 widest ∷ []
 
 abbrev flow_known : List (Piece Reading)
-flow_known = piece 0 dry ∷ piece 2 flowing ∷ piece 10 widest ∷ []
+flow_known = piece_from 0 dry ∷ piece_from 2 flowing ∷ piece_from 10 widest ∷ []
 
 abbrev pub state_of_lines : List (Piece Reading) → List (Piece Reading) → ℕ → State
 state_of_lines hot flow count = record { lines = hot ∷ flow ∷ []; tally = count; sealed = false }
@@ -59,7 +58,7 @@ abbrev pub just_opened : State
 just_opened = opened 2
 
 abbrev pub hot_entered : State
-hot_entered = state_of_lines hot_known unknown 1
+hot_entered = state_of_lines hot_known nothing_known 1
 
 abbrev pub dry_entered : State
 dry_entered = state_of_lines hot_known dry_known 2
@@ -77,7 +76,6 @@ lower_apart z p q a b e = clash (sym b ∙ ap (λ (r : Reading). int_le r.lower 
 upper_apart : (z : ℤ) (p q : Reading) → int_le p.upper z ≡ true → int_le q.upper z ≡ false → p ≢ q
 upper_apart z p q a b e = clash (sym b ∙ ap (λ (r : Reading). int_le r.upper z) (sym e) ∙ a)
 
-
 -- behind the last start a list stays as it is
 abbrev StartBy : ℕ → List (Piece Reading) → Type 0
 StartBy t [] = Unit {0}
@@ -93,24 +91,24 @@ just_late (suc zero) t h = refl
 just_late (suc (suc line)) t h = refl
 
 hot_late : WidestFromTen (readings_of hot_entered)
-hot_late zero t h = late_reads hot_wide (piece 10 widest ∷ []) t (h, tt)
+hot_late zero t h = late_reads hot_wide (piece_from 10 widest ∷ []) t (h, tt)
 hot_late (suc zero) t h = refl
 hot_late (suc (suc line)) t h = refl
 
 dry_late : WidestFromTen (readings_of dry_entered)
-dry_late zero t h = late_reads hot_wide (piece 10 widest ∷ []) t (h, tt)
-dry_late (suc zero) t h = late_reads dry (piece 2 widest ∷ []) t (omega arith, tt)
+dry_late zero t h = late_reads hot_wide (piece_from 10 widest ∷ []) t (h, tt)
+dry_late (suc zero) t h = late_reads dry (piece_from 2 widest ∷ []) t (omega arith, tt)
 dry_late (suc (suc line)) t h = refl
 
 -- nothing is known from tick 10 on
 pub flow_late : WidestFromTen (readings_of flow_entered)
-flow_late zero t h = late_reads hot_wide (piece 10 widest ∷ []) t (h, tt)
-flow_late (suc zero) t h = late_reads dry (piece 2 flowing ∷ piece 10 widest ∷ []) t (omega arith, (h, tt))
+flow_late zero t h = late_reads hot_wide (piece_from 10 widest ∷ []) t (h, tt)
+flow_late (suc zero) t h = late_reads dry (piece_from 2 flowing ∷ piece_from 10 widest ∷ []) t (omega arith, (h, tt))
 flow_late (suc (suc line)) t h = refl
 
 pub finer_late : WidestFromTen (readings_of finer_entered)
-finer_late zero t h = late_reads hot_wide (piece 2 hot_fine ∷ piece 4 hot_wide ∷ piece 10 widest ∷ []) t (omega arith, (omega arith, (h, tt)))
-finer_late (suc zero) t h = late_reads dry (piece 2 flowing ∷ piece 10 widest ∷ []) t (omega arith, (h, tt))
+finer_late zero t h = late_reads hot_wide (piece_from 2 hot_fine ∷ piece_from 4 hot_wide ∷ piece_from 10 widest ∷ []) t (omega arith, (omega arith, (h, tt)))
+finer_late (suc zero) t h = late_reads dry (piece_from 2 flowing ∷ piece_from 10 widest ∷ []) t (omega arith, (h, tt))
 finer_late (suc (suc line)) t h = refl
 
 -- nor where an entry ends by then
@@ -120,8 +118,8 @@ entered_late s late line from to p few t h = entered_elsewhere (readings_of s) l
 inside_widest : (p : Reading) → Within p widest
 inside_widest p = record { lower = p.bottom.0; upper = p.top.1 }
 
-inside : (l u : ℤ) (p q : Reading) → ReadingWith l u (Some p) → q.lower ≤ℤ l → u ≤ℤ q.upper → Within p q
-inside l u p q r a b = record { lower = subst (λ z. q.lower ≤ℤ z) (sym r.0) a; upper = subst (λ z. z ≤ℤ q.upper) (sym r.1) b }
+ends_inside : (l u : ℤ) (p q : Reading) → ReadingWith l u (Some p) → q.lower ≤ℤ l → u ≤ℤ q.upper → Within p q
+ends_inside l u p q r a b = record { lower = subst (λ z. q.lower ≤ℤ z) (sym r.0) a; upper = subst (λ z. z ≤ℤ q.upper) (sym r.1) b }
 
 hot_lists : Lists (entered (readings_of just_opened) 0 0 10 hot_wide 0) hot_known
 hot_lists = ((refl, (omega arith, λ e. lower_apart (pos 0) widest hot_wide refl refl (sym e), tt)), each_tick (λ t. reading_at hot_known t ≡ entered (readings_of just_opened) 0 0 10 hot_wide 0 t) refl refl refl refl refl refl refl refl refl refl (λ t h. hot_late 0 t h ∙ sym (entered_late just_opened just_late 0 0 10 hot_wide (omega arith) t h)))
@@ -174,7 +172,7 @@ flow_ends : ReadingEnds (pos 0) (pos 40)
 flow_ends = ((le_z_yes tt, le_z_yes tt), (le_z_yes tt, le_z_yes tt), le_z_yes tt)
 
 flow_narrows : Narrows dry_entered 1 2 10 (pos 0) (pos 40)
-flow_narrows p r u a b = subst (Within p) (sym (late_reads dry (piece 2 widest ∷ []) u (a, tt))) (inside_widest p)
+flow_narrows p r u a b = subst (Within p) (sym (late_reads dry (piece_from 2 widest ∷ []) u (a, tt))) (inside_widest p)
 
 flow_fits : FitsLine dry_entered 1 2 10 (pos 0) (pos 40)
 flow_fits p ps h =
@@ -204,7 +202,7 @@ finer_ends : ReadingEnds (pos 1800) (pos 1850)
 finer_ends = ((le_z_yes tt, le_z_yes tt), (le_z_yes tt, le_z_yes tt), le_z_yes tt)
 
 finer_narrows : Narrows flow_entered 0 2 4 (pos 1800) (pos 1850)
-finer_narrows p r u a b = let here : Within p hot_wide = inside (pos 1800) (pos 1850) p hot_wide r (le_z_yes tt) (le_z_yes tt) in two_ticks (λ t. Within p (readings_of flow_entered 0 t)) here here u a b
+finer_narrows p r u a b = let here : Within p hot_wide = ends_inside (pos 1800) (pos 1850) p hot_wide r (le_z_yes tt) (le_z_yes tt) in two_ticks (λ t. Within p (readings_of flow_entered 0 t)) here here u a b
 
 finer_fits : FitsLine flow_entered 0 2 4 (pos 1800) (pos 1850)
 finer_fits p ps h =
@@ -235,20 +233,20 @@ wider_turn = (inr (refl, inr (omega arith, inr ((omega arith, omega arith), inr 
 -- the readings are those of the worked cases
 module _ (r : Reading) where
   -- what is entered by tick 10 tells nothing behind it, and nothing of other lines
-  behind : (x : Readings) (line from to k t : ℕ) → ¬ (k ≡ line) ⊎ ((t < from) ⊎ (to ≤ t)) → x k t ≡ widest → entered x line from to r k t ≡ widest
-  behind x line from to k t e h = entered_elsewhere x line from to r k t e ∙ h
+  entry_behind : (x : Readings) (line from to k t : ℕ) → ¬ (k ≡ line) ⊎ ((t < from) ⊎ (to ≤ t)) → x k t ≡ widest → entered x line from to r k t ≡ widest
+  entry_behind x line from to k t e h = entered_elsewhere x line from to r k t e ∙ h
 
 forecast_late : (line t : ℕ) → (2 ≤ line) ⊎ (10 ≤ t) → forecast line t ≡ widest
 forecast_late line t h =
     let hot : Readings = entered nothing_entered 0 0 10 hot_wide in
     let known : Readings = entered hot 1 0 2 dry in
-    behind flowing known 1 2 10 line t (past 1 10 (omega arith) (omega arith) 2) (behind dry hot 1 0 2 line t (past 1 2 (omega arith) (omega arith) 0) (behind hot_wide nothing_entered 0 0 10 line t (past 0 10 (omega arith) (omega arith) 0) refl))
+    entry_behind flowing known 1 2 10 line t (past 1 10 (omega arith) (omega arith) 2) (entry_behind dry hot 1 0 2 line t (past 1 2 (omega arith) (omega arith) 0) (entry_behind hot_wide nothing_entered 0 0 10 line t (past 0 10 (omega arith) (omega arith) 0) refl))
   where
     past : (k to : ℕ) → k < 2 → to ≤ 10 → (from : ℕ) → ¬ (line ≡ k) ⊎ ((t < from) ⊎ (to ≤ t))
     past k to a b from = elim h [ inl far ↦ inl (λ e. omega arith) | inr late ↦ inr (inr (omega arith)) ]
 
 refined_late : (line t : ℕ) → (2 ≤ line) ⊎ (10 ≤ t) → refined line t ≡ widest
-refined_late line t h = behind hot_fine forecast 0 2 4 line t (elim h [ inl far ↦ inl (λ e. omega arith) | inr late ↦ inr (inr (omega arith)) ]) (forecast_late line t h)
+refined_late line t h = entry_behind hot_fine forecast 0 2 4 line t (elim h [ inl far ↦ inl (λ e. omega arith) | inr late ↦ inr (inr (omega arith)) ]) (forecast_late line t h)
 
 flow_reads : (line t : ℕ) → readings_of flow_entered line t ≡ forecast line t
 flow_reads zero t = each_tick (λ t. readings_of flow_entered 0 t ≡ forecast 0 t) refl refl refl refl refl refl refl refl refl refl (λ u h. flow_late 0 u h ∙ sym (forecast_late 0 u (inr h))) t

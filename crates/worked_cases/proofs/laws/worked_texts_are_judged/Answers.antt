@@ -3,8 +3,6 @@ use Rattle.meaning.specs.Values.{over, until_at, step, values, value}
 use Rattle.worked_cases.proofs.GuardText.{guard_read}
 use Rattle.worked_cases.proofs.UntilText.{until_read}
 use Rattle.worked_cases.proofs.LowestTexts.{lowest_read, above_read}
-use Rattle.meaning.specs.Cases as worked
-use Rattle.meaning.specs.Cases.{guard, at_least}
 use Rattle.worked_cases.proofs.laws.worked_texts_are_judged.Goals as goal
 
 pub returns : goal.returns
