@@ -12,12 +12,13 @@ use lent::cells::Cells;
 use std::alloc::{AllocError, Global};
 use std::{fs, io};
 
-const SAMPLES: [&str; 5] = [
+const SAMPLES: [&str; 6] = [
     "cold_start.txt",
     "flow_before_heat.txt",
     "plate_lift.txt",
     "chamber.txt",
     "day_long.txt",
+    "gaps.txt",
 ];
 
 // The listing of a case.

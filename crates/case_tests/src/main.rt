@@ -3,9 +3,13 @@
 
 mod example;
 mod examples;
+mod late;
+mod long;
 
 use example::{Example, Lent, note};
 use examples::EXAMPLES;
+use late::LATE;
+use long::note_long_cases;
 use std::io;
 
 const NO_CELLS: Lent = Lent {
@@ -18,6 +22,10 @@ fn main(rt: HostRuntime) -> io::Result<()> {
     for example in &EXAMPLES {
         note(&rt, example)?;
     }
+    for example in &LATE {
+        note(&rt, example)?;
+    }
+    note_long_cases(&rt)?;
     // As long as a case may be, and one byte longer.
     let bytes = [0u8; 16_385];
     note(

@@ -18,6 +18,8 @@ impl fmt::Display for Count {
 
 #[derive(Default, Drop)]
 pub(crate) struct Counts {
+    pub(crate) mixed: Count,
+    pub(crate) grouped: Count,
     pub(crate) rules: Count,
     pub(crate) too_far: Count,
     pub(crate) accepted: Count,
@@ -35,6 +37,11 @@ pub(crate) struct Counts {
 impl Counts {
     pub(crate) fn print(&self, rt: &HostRuntime) -> io::Result<()> {
         for (count, label) in [
+            (&self.mixed, "times & beside | without brackets"),
+            (
+                &self.grouped,
+                "times & behind &, or | behind |, without brackets",
+            ),
             (&self.rules, "rules read"),
             (&self.too_far, "texts that look too far"),
             (&self.accepted, "entries accepted"),

@@ -2,7 +2,7 @@
 use crate::counts::Counts;
 use crate::dice::Dice;
 use crate::entries::random_entry;
-use crate::texts::Writer;
+use crate::texts::{Place, Writer};
 use compare::cells::Measured;
 use compare::entries::Pair;
 use compare::marking::Whole;
@@ -144,15 +144,21 @@ impl Trials {
             self.dice.below(3).saturating_add(1)
         };
         let depth = self.dice.below(5);
+        let mut rows = Vec::new(self.heap);
         let mut writer = Writer {
             dice: &mut self.dice,
             text,
+            rows: &mut rows,
             lines,
             huge,
+            mixed: &mut self.counts.mixed,
+            grouped: &mut self.counts.grouped,
         };
-        let reach = writer.write_rule(depth)?;
+        let reach = writer.write_rule(depth, Place::Alone)?.reach;
         match Rule::read(text.as_bytes(), &NAMES) {
             Ok(rule) => {
+                // The rows that were drawn, whatever brackets the text has.
+                ensure(rule.rows() == rows.as_slice(), Mismatch::Rule)?;
                 ensure(rule.reach() as u64 == reach, Mismatch::Rule)?;
                 self.ask_rule(lines, &rule)
             }

@@ -1,0 +1,10 @@
+mod Words
+mod GuardText
+mod UntilText
+mod LowestTexts
+mod TenTicks
+mod ShortLists
+mod GuardLists
+mod WorkedStates
+mod WorkedFields
+mod WorkedListing
