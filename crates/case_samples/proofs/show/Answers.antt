@@ -1,11 +1,11 @@
-use Rattle.std.proofs.Common.{ℕ, List, vec_items, string_bytes, subst}
+use Rattle.std.proofs.Common.{ℕ, List, vec_items, subst}
 use Rattle.std.proofs.lemmas.Result.{IfOk-weaker}
 use Rattle.case_samples.specs.Samples.{SampleListed, listing}
 use Rattle.case_samples.proofs.Faults.{fault_shown}
 use Rattle.case_samples.proofs.show.Goals as goal
 
 pub returns-in-Ok : goal.returns-in-Ok
-returns-in-Ok c = IfOk-weaker c.list.result _ _ (λ s l. listing (vec_items c.in-Ok.case) c.in-Ok.ensures (subst (λ (v : List ℕ). SampleListed v (string_bytes s)) c.as_slice.ensures.value l)) c.list.ensures
+returns-in-Ok c = IfOk-weaker c.list.result _ _ (λ s l. listing (vec_items c.in-Ok.case) c.in-Ok.ensures (subst (λ (v : List ℕ). SampleListed v (vec_items s)) c.as_slice.ensures.value l)) c.list.ensures
 
 pub returns-in-Err : goal.returns-in-Err
-returns-in-Err c = IfOk-weaker c.show_fault.result _ _ (λ s f. fault_shown c.in-Err.fault c.args.text.now (string_bytes s) c.in-Err.ensures f) c.show_fault.ensures
+returns-in-Err c = IfOk-weaker c.show_fault.result _ _ (λ s f. fault_shown c.in-Err.fault c.args.text.now (vec_items s) c.in-Err.ensures f) c.show_fault.ensures
