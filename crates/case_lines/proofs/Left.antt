@@ -1,9 +1,8 @@
 -- What is left in the lent cells, field by field.
-use Rattle.std.proofs.Common.{◌≡◌, ℕ, zero, suc, ◌+◌, ◌-◌, ◌*◌, ◌<◌, ◌≤◌, List, [], ◌∷◌, length, get_or, take, drop, ℤ, Some, None, Ok, Err, Result, OnOk, sym, refl, ap, ◌∙◌, subst, arith}
+use Rattle.std.proofs.Common.{◌≡◌, ℕ, zero, suc, ◌+◌, ◌-◌, ◌*◌, ◌<◌, ◌≤◌, List, [], ◌∷◌, length, take, drop, ℤ, Ok, Err, Result, sym, refl, ap, ◌∙◌, subst, arith}
 use Rattle.std.proofs.lemmas.List.{drop-drop, length-replicate, length-set}
 use Rattle.pieces.specs.declared.piece.Piece.{Piece}
 use Rattle.meaning.specs.declared.reading.Reading.{Reading}
-use Rattle.rules.specs.declared.row.Row.{Row}
 use Rattle.runs.specs.Jobs.{JobTurn, enter}
 use Rattle.runs.specs.States.{State, blank, opened, line_count}
 use Rattle.runs.proofs.Turns.{entry_passes}
@@ -15,18 +14,10 @@ use Rattle.jobs.specs.Jobs.{cells_of, state_of}
 use Rattle.jobs.specs.Lines.{noted_count}
 use Rattle.jobs.proofs.Parts.{length_lines, line_at}
 use Rattle.lent.specs.Holding.{Contents, SameLoans}
-use Rattle.cases.specs.declared.call.Call.{Call}
-use Rattle.cases.specs.declared.call.Call.TheVariants.{Enter, Judge}
-use Rattle.cases.specs.declared.fault.CaseRefusal.{CaseRefusal}
-use Rattle.cases.specs.declared.field.Entry.{Entry}
 use Rattle.cases.specs.Headings.{OpenedCase, Opens}
-use Rattle.cases.specs.Steps.{Sized, Stepped, Steps, call_item}
+use Rattle.cases.specs.Steps.{Sized}
 use Rattle.lent.specs.declared.cells.Cells.{Cells}
-use Rattle.case_lines.specs.declared.fault.ListFault.{ListFault}
-use Rattle.case_lines.specs.declared.fault.ListFault.TheVariants.{Refused, NoMemory}
-use Rattle.case_lines.specs.Writes.{AppendsSome}
-use Rattle.case_lines.specs.Calls.{CarriesEntry}
-use Rattle.case_lines.specs.Leaves.{TickLeaves, FieldLeaves, enters, ticks, FieldsLeave, ended, refused, does, LinesLie, CarriedOn, CaseLeaves, carried, InMemory}
+use Rattle.case_lines.specs.Leaves.{FieldsLeave, LinesLie, CarriedOn, CaseLeaves, carried}
 
 pub same_twice : (a b c : Cells) → SameLoans a b → SameLoans b c → SameLoans a c
 same_twice a b c p q = (q.0 ∙ p.0, q.1 ∙ p.1, q.2 ∙ p.2, q.3 ∙ p.3)
@@ -53,34 +44,6 @@ pub carried_twice : (a b c : Job) → CarriedOn a b → CarriedOn b c → Carrie
 carried_twice a b c p q =
     record { many = q.many ∙ p.many; behind = subst (λ n. drop (64 * n) (cells_of c) ≡ drop (64 * n) (cells_of b)) p.many q.behind ∙ p.behind }
 
-module _ (rows : List Row) where
-  module _ {E : Type 0} (r : Result (Unit {0}) E) (c : Call) (s z : State) where
-    pub entry_leaves : (before after : List ℕ) (k : ℕ) (e : Entry) (here : Contents) → c ≡ Enter e → AppendsSome before r (CarriesEntry k e s z) after → OnOk r (FieldLeaves rows (call_item c) s z here here)
-    entry_leaves before after k e here is h = elim r as (λ r. AppendsSome before r (CarriesEntry k e s z) after → OnOk r (FieldLeaves rows (call_item c) s z here here)) [ Ok u ↦ λ h. enters e h.1.reply (ap call_item is) h.1.turn refl | Err x ↦ λ h. tt ] h
-
-    pub tick_leaves : (t : ℕ) (before after : Contents) → c ≡ Judge t → z ≡ s → TickLeaves rows s t before after → OnOk r (FieldLeaves rows (call_item c) s z before after)
-    tick_leaves t before after is same h = elim r as (λ r. OnOk r (FieldLeaves rows (call_item c) s z before after)) [ Ok u ↦ ticks t (ap call_item is) same h | Err x ↦ tt ]
-
-  module _ (n₀ : ℕ) (s₀ : State) (bytes₀ : List ℕ) (start : Contents) where
-    -- what the fields so far left, by what the rest is to leave
-    pub record LeftSofar (n : ℕ) (s : State) (bytes : List ℕ) (here : Contents) : Type 0 where
-      pub goes_on : (z : State) (after : Contents) → FieldsLeave rows n s bytes z here after → FieldsLeave rows n₀ s₀ bytes₀ z start after
-
-    module _ (n : ℕ) (s : State) (bytes : List ℕ) (here : Contents) (sofar : LeftSofar n s bytes here) where
-      pub left_onward : (x : Stepped) (y : State) (later : Contents) → Steps n bytes (Ok (Some x)) → FieldLeaves rows x.item s y here later → LeftSofar x.next y x.rest later
-      left_onward x y later steps h = record { goes_on = λ z after l. sofar.goes_on z after (does x steps h l) }
-
-      pub left_over : Steps n bytes (Ok None) → FieldsLeave rows n₀ s₀ bytes₀ s start here
-      left_over steps = sofar.goes_on s here (ended steps refl refl)
-
-      pub left_stopped : (e : CaseRefusal) → Steps n bytes (Err e) → FieldsLeave rows n₀ s₀ bytes₀ s start here
-      left_stopped e steps = sofar.goes_on s here (refused e steps refl refl)
-
-pub in_memory : (r : Result (Unit {0}) ListFault) (P Q : Type 0) → (P → Q) → InMemory r P → InMemory r Q
-in_memory (Ok u) P Q f p = f p
-in_memory (Err (Refused e)) P Q f p = f p
-in_memory (Err NoMemory) P Q f p = tt
-
 -- a list's beginning, by its own length
 again : {X : Type 0} (n : ℕ) (xs : List X) → take (length (take n xs)) xs ≡ take n xs
 again zero xs = refl
@@ -105,7 +68,6 @@ lines_lie asked before j z state behind on =
 -- the whole case, from what its fields left
 pub case_left : (case : List ℕ) (pieces : List (Piece Reading)) (o : OpenedCase) → Sized case (Ok tt) → Opens 1 [] case (Ok o) → (j z : Job) →
     state_of j ≡ opened (line_count o.lines (length pieces)) → drop (64 * line_count o.lines (length pieces)) (cells_of j) ≡ drop (64 * line_count o.lines (length pieces)) pieces → CarriedOn j z →
-    (r : Result (Unit {0}) ListFault) (before after : Contents) → InMemory r (FieldsLeave o.rows o.next (state_of j) o.rest (state_of z) before after) → InMemory r (CaseLeaves case pieces (cells_of z) before after)
-case_left case pieces o sized opens j z state behind on r before after h =
-    in_memory r (FieldsLeave o.rows o.next (state_of j) o.rest (state_of z) before after) (CaseLeaves case pieces (cells_of z) before after)
-    (λ l. carried o (state_of z) sized opens (subst (λ (s : State). FieldsLeave o.rows o.next s o.rest (state_of z) before after) state l) (lines_lie o.lines pieces j z state behind on)) h
+    (before after : Contents) → FieldsLeave o.rows o.next (state_of j) o.rest (state_of z) before after → CaseLeaves case pieces (cells_of z) before after
+case_left case pieces o sized opens j z state behind on before after l =
+    carried o (state_of z) sized opens (subst (λ (s : State). FieldsLeave o.rows o.next s o.rest (state_of z) before after) state l) (lines_lie o.lines pieces j z state behind on)

@@ -1,8 +1,5 @@
-pub mod Marked
-pub mod Adding
 pub mod Entered
 pub mod Ticked
-pub mod Carried
 pub mod Whole
 pub mod OneListing
 pub mod Left

@@ -1,9 +1,7 @@
 -- Lines as values.
-use Rattle.std.proofs.Common.{◌≡◌, ℕ, List, [], ◌∷◌, ◌++◌, Some, None, codes, decimal, append_assoc, sym, refl, ap, ◌∙◌}
-use Rattle.std.specs.Fmt.{signed_decimal}
+use Rattle.std.proofs.Common.{◌≡◌, [], ◌∷◌, ◌++◌, Some, None, append_assoc, refl}
 use Rattle.case_lines.specs.declared.line.Line.{Line}
 use Rattle.case_lines.specs.declared.line.Line.TheVariants.{Refused, Verdict, Marked}
-use Rattle.case_lines.specs.Lines.{outcome_text}
 use Rattle.case_lines.specs.LineTexts.{line_shown, line_text}
 
 -- a line's text is what is line_shown of it, and the line's end

@@ -34,10 +34,12 @@ module _ (a : Option (List ℕ)) (P : List ℕ → Type 0) where
         (text : List ℕ) → P text → (front : List ℕ) × (rest : List ℕ) × (text ≡ front ++ rest) × Appends a c front
     broken c line R back f text p =
         let h = sofar.only text p in
-        let k = back h.0 h.1 in
-        (sofar.done ++ f.0, f.1 ++ k.0,
-        h.2 ∙ ap (λ (v : List ℕ). sofar.done ++ v) (k.2 ∙ ap (λ (v : List ℕ). v ++ k.0) f.2 ∙ append_assoc f.0 f.1 k.0) ∙ sym (append_assoc sofar.done f.0 (f.1 ++ k.0)),
-        Appends-trans a b c sofar.done f.0 sofar.written f.3)
+        let k = back h.0 h.1 in (
+          sofar.done ++ f.0,
+          f.1 ++ k.0,
+          h.2 ∙ ap (λ (v : List ℕ). sofar.done ++ v) (k.2 ∙ ap (λ (v : List ℕ). v ++ k.0) f.2 ∙ append_assoc f.0 f.1 k.0) ∙ sym (append_assoc sofar.done f.0 (f.1 ++ k.0)),
+          Appends-trans a b c sofar.done f.0 sofar.written f.3,
+        )
 
 -- what is not sent yet: what waits, and what is left behind it
 abbrev pub Unsent : List ℕ → (List ℕ → Type 0) → List ℕ → Type 0

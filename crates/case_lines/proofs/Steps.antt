@@ -1,5 +1,5 @@
 -- A lister that goes on, field by field.
-use Rattle.std.proofs.Common.{◌≡◌, ℕ, ◌+◌, ◌*◌, ◌<◌, ◌≤◌, Bool, true, false, List, [], ◌∷◌, ◌++◌, length, take, drop, Some, None, Ok, Err, Option, Result, sym, refl, ap, ◌∙◌, subst, append_assoc, append-nil, arith}
+use Rattle.std.proofs.Common.{◌≡◌, ℕ, ◌+◌, ◌*◌, ◌<◌, ◌≤◌, Bool, false, List, [], ◌++◌, length, take, drop, Some, None, Ok, Err, sym, refl, ap, ◌∙◌, subst, append_assoc, append-nil, arith}
 use Rattle.std.proofs.lemmas.List.{length-drop, length-take, length-append}
 use Rattle.std.proofs.lemmas.Nat.{row_fits}
 use Rattle.rules.specs.declared.row.Row.{Row}
@@ -129,9 +129,11 @@ module _ (cells : CellCounts) (rows : List Row) (n : ℕ) (s : State) (bytes : L
 
       pub only_line : (printed : Printed) (ms : List Mark) → Does cells rows x.field x.item s z (printed_text printed ms) → (ws : List Mark) → ws ≡ take printed.marks ms → (text : List ℕ) → LeftPrints over cells rows n s bytes text → (more : List ℕ) × ((m : List ℕ) × LeftPrints over here rows x.next z x.rest m × (more ≡ mark_lines ws ++ m)) × (text ≡ line_text printed.line ++ more)
       only_line printed ms d ws is text l =
-          let h = step_only x steps z (printed_text printed ms) d text (forth text l) in
-          (mark_lines ws ++ h.0, (h.0, later h.0 h.1, refl),
-          h.2 ∙ append_assoc (line_text printed.line) (mark_lines (take printed.marks ms)) h.0 ∙ ap (λ (v : List Mark). line_text printed.line ++ (mark_lines v ++ h.0)) (sym is))
+          let h = step_only x steps z (printed_text printed ms) d text (forth text l) in (
+            mark_lines ws ++ h.0,
+            (h.0, later h.0 h.1, refl),
+            h.2 ∙ append_assoc (line_text printed.line) (mark_lines (take printed.marks ms)) h.0 ∙ ap (λ (v : List Mark). line_text printed.line ++ (mark_lines v ++ h.0)) (sym is),
+          )
 
 -- what is left behind no mark
 pub bare : (ws : List Mark) → ws ≡ [] → (text m : List ℕ) → text ≡ mark_lines ws ++ m → text ≡ m

@@ -1,5 +1,5 @@
 -- What a write leaves in a sink, at an error too.
-use Rattle.std.specs.Prelude.{◌≡◌, ℕ, List, ◌++◌, take, Ok, Err, Option, Result}
+use Rattle.std.specs.Prelude.{◌≡◌, ℕ, List, ◌++◌, Ok, Err, Option, Result}
 use Rattle.std.specs.Io.KnownBytes.{Appends}
 
 -- all the bytes are appended at Ok, and a beginning of them at Err

@@ -26,8 +26,6 @@ use Rattle.cases.specs.declared.field.Entry.{Entry}
 use Rattle.cases.specs.Contents.{Item, entry, tick}
 use Rattle.cases.specs.Headings.{OpenedCase, Opens}
 use Rattle.cases.specs.Steps.{Sized, Stepped, Steps}
-use Rattle.case_lines.specs.declared.fault.ListFault.{ListFault}
-use Rattle.case_lines.specs.declared.fault.ListFault.TheVariants.{Refused, NoMemory}
 
 module _ (rows : List Row) where
   module _ (s : State) (t : ℕ) where
@@ -73,12 +71,6 @@ pub data CaseLeaves (case : List ℕ) (pieces pieces' : List (Piece Reading)) (b
   too_long : (e : CaseRefusal) → Sized case (Err e) → pieces' ≡ pieces → after ≡ before → CaseLeaves case pieces pieces' before after
   no_heading : (e : CaseRefusal) → Sized case (Ok tt) → Opens 1 [] case (Err e) → pieces' ≡ pieces → after ≡ before → CaseLeaves case pieces pieces' before after
   carried : (o : OpenedCase) (z : State) → Sized case (Ok tt) → Opens 1 [] case (Ok o) → FieldsLeave o.rows o.next (opened (line_count o.lines (length pieces))) o.rest z before after → LinesLie z.lines pieces pieces' → CaseLeaves case pieces pieces' before after
-
--- unless memory ran out
-abbrev pub InMemory : Result (Unit {0}) ListFault → Type 0 → Type 0
-InMemory (Ok u) P = P
-InMemory (Err (Refused e)) P = P
-InMemory (Err NoMemory) P = Unit {0}
 
 -- a case leaves one thing in the judge's cells, and the same lines in the piece cells
 abbrev pub OneLeaving : Type 0

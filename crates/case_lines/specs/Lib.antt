@@ -1,5 +1,4 @@
 pub mod Lines
-pub mod Writes
 pub mod Calls
 pub mod Listings
 pub mod Leaves

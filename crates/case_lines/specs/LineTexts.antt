@@ -1,5 +1,5 @@
 -- What is printed of a line of a listing.
-use Rattle.std.specs.Prelude.{ℕ, List, [], ◌∷◌, ◌++◌, Some, None, codes, decimal}
+use Rattle.std.specs.Prelude.{ℕ, List, ◌++◌, Some, None, codes, decimal}
 use Rattle.std.specs.Fmt.{signed_decimal}
 use Rattle.case_lines.specs.declared.line.Line.{Line}
 use Rattle.case_lines.specs.declared.line.Line.TheVariants.{Refused, Verdict, Marked}

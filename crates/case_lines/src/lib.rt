@@ -2,10 +2,8 @@
 #![tactic(auto)]
 
 mod buffer;
-mod calling;
 mod carrying;
 pub mod cells;
-mod fault;
 pub mod field_lister;
 pub mod laws;
 pub mod leaving;
@@ -14,8 +12,6 @@ pub mod lines;
 pub mod lister;
 pub mod listing;
 pub mod opening;
-pub mod output;
 mod printed;
 mod sink;
 mod ticking;
-mod writing;

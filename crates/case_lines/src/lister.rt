@@ -10,10 +10,10 @@ ghost use Rattle.case_lines.specs.Leaves.{FieldsLeave, CarriedOn};
 ghost use Rattle.case_lines.specs.LineTexts.{line_text};
 ghost use Rattle.case_lines.specs.Rests.{HeadingRead, RestPrints, RestLeaves, marks_waiting, work_left};
 
+use crate::carrying::{carry_step, refusal_of};
 use crate::field_lister::FieldLister;
 use crate::line::Line;
 use crate::opening::Opening;
-use crate::carrying::{refusal_of, carry_step};
 use jobs::job::Job;
 use lent::cells::Cells;
 use meaning::mark::Mark;

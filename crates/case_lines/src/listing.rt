@@ -1,108 +1,84 @@
-// The listing of a whole case.
-ghost use Rattle.std.specs.Prelude.{◌≡◌, length, IfOk, OnOk, string_bytes};
-ghost use Rattle.rules.specs.Texts.{table_of};
+// Writing the listing of a case, line by line.
+ghost use Rattle.std.specs.Prelude.{◌≡◌, length, OnOk};
 ghost use Rattle.jobs.specs.Jobs.{state_of, SameLoan};
-ghost use Rattle.cases.specs.Readers.{left_of, next_of};
-ghost use Rattle.cases.specs.Steps.{call_item};
-ghost use Rattle.case_lines.specs.Writes.{AppendsSome, AppendsClosed};
 ghost use Rattle.lent.specs.Holding.{contents, counts, SameLoans};
-ghost use Rattle.case_lines.specs.Listings.{Does, ListsFields, Listing, lent_cells};
-ghost use Rattle.case_lines.specs.Leaves.{FieldLeaves, FieldsLeave, CaseLeaves, CarriedOn, InMemory};
+ghost use Rattle.case_lines.specs.LineTexts.{line_text};
+ghost use Rattle.case_lines.specs.Listings.{Listing, lent_cells};
+ghost use Rattle.case_lines.specs.Leaves.{CaseLeaves, CarriedOn};
+ghost use Rattle.case_lines.specs.Rests.{RestPrints, RestLeaves};
+ghost use Rattle.case_lines.specs.Fronts.{WritesFront, WritesSome};
 
-use crate::calling::write_entry;
-use crate::fault::ListFault;
-use crate::ticking::write_tick;
-use crate::writing::write_refusal;
-use cases::call::{Call, Step};
-use cases::reader::CaseReader;
+use crate::buffer::LineBuffer;
+use crate::carrying::refusal_of;
+use crate::field_lister::FieldLister;
+use crate::line::Line;
+use crate::opening::Opening;
+use crate::sink::{put_line, send};
 use jobs::job::Job;
 use lent::cells::Cells;
 use meaning::reading::Reading;
 use pieces::piece::Piece;
-use rules::rule::Rule;
-use std::alloc::{AllocError, Global};
+use std::io;
+use std::io::Write;
 
-// Carries out one field, and writes what it prints. Text, job, rule and cells stay parameters: a struct of these loans would have seven lifetimes.
-// The job and the cells stay the same loans, so that who lent them learns what they hold in the end.
-fn write_step<'a>(
-    text: &mut String,
-    job: &mut Job<'a>,
-    rule: &Rule,
-    step: Step,
-    cells: &mut Cells<'_>,
-) -> Result<(), AllocError>
-    ensures does { AppendsSome (string_bytes text.old) result (Does (counts cells.old) (table_of rule.now) step.field (call_item step.call) (state_of job.old) (state_of job.new)) (string_bytes text.new) }
-    ensures kept { counts cells.new ≡ counts cells.old }
-    ensures leaves { OnOk result (FieldLeaves (table_of rule.now) (call_item step.call) (state_of job.old) (state_of job.new) (contents cells.old) (contents cells.new)) }
-    ensures pieces { CarriedOn job.old job.new }
-    ensures loan { SameLoan job.old job.new }
-    ensures loans { SameLoans cells.old cells.new }
+// Writes one line alone.
+fn write_line<W: Write>(sink: &mut W, line: Line) -> io::Result<()>
+    ensures { WritesFront (W.contents sink.old) (W.contents sink.new) (line_text line) result }
 {
-    match step.call {
-        Call::Enter(entry) => write_entry(text, job, step.field, entry),
-        Call::Judge { tick } => write_tick(text, job, rule, step.field, tick, cells),
-    }
+    let mut buffer = LineBuffer::new();
+    put_line(sink, &mut buffer, line)?;
+    send(sink, &mut buffer)
 }
 
-// Carries out the fields from where the reader stands to the end, or to the first that is refused.
-fn write_steps<'a, 'b>(
-    text: &mut String,
-    reader: &mut CaseReader<'a>,
-    job: &mut Job<'b>,
-    rule: &Rule,
-    cells: &mut Cells<'_>,
-) -> Result<(), ListFault>
-    ensures prints { AppendsClosed (string_bytes text.old) result (ListsFields (counts cells.old) (table_of rule.now) (next_of reader.old) (state_of job.old) (left_of reader.old)) (string_bytes text.new) }
-    ensures leaves { InMemory result (FieldsLeave (table_of rule.now) (next_of reader.old) (state_of job.old) (left_of reader.old) (state_of job.new) (contents cells.old) (contents cells.new)) }
-    ensures pieces { CarriedOn job.old job.new }
-    ensures loan { SameLoan job.old job.new }
-    ensures kept { counts cells.new ≡ counts cells.old }
-    ensures loans { SameLoans cells.old cells.new }
+// Writes the lines that are left.
+fn write_rest<'c, 'j, 'k, 'p, 'l, W: Write>(
+    sink: &mut W,
+    lister: &mut FieldLister<'c, 'j, 'k, 'p, 'l>,
+) -> io::Result<()>
+    ensures prints { WritesSome (W.contents sink.old) (W.contents sink.new) (RestPrints lister.old) result }
+    ensures leaves { OnOk result (RestLeaves lister.old (state_of lister.new.job.now) (contents lister.new.cells.now)) }
+    ensures pieces { CarriedOn lister.old.job.now lister.new.job.now }
+    ensures loan { SameLoan lister.old.job.now lister.new.job.now }
+    ensures kept { counts lister.new.cells.now ≡ counts lister.old.cells.now }
+    ensures loans { SameLoans lister.old.cells.now lister.new.cells.now }
+    ensures same_job { lister.new.job.ghost_name ≡ lister.old.job.ghost_name }
+    ensures same_cells { lister.new.cells.ghost_name ≡ lister.old.cells.ghost_name }
 {
-    while let Some(step) = reader.step()? {
-        write_step(text, job, rule, step, cells)?;
+    let mut buffer = LineBuffer::new();
+    while let Some(line) = lister.next() {
+        put_line(sink, &mut buffer, line)?;
     }
-    Ok(())
+    send(sink, &mut buffer)
 }
 
-// Writes the listing of a case, up to a refusal that ends it.
-fn write_case(
-    text: &mut String,
+/// Writes the listing of a case, on a job that keeps its lines in the lent pieces; the other cells are lent to the judge. No memory is asked for.
+/// Lines wait in a buffer of 4,096 bytes, and an interrupted write is tried again. At an error the sink has got a beginning of the listing.
+pub fn write_listing<W: Write>(
+    sink: &mut W,
     case: &[u8],
     pieces: &mut [Piece<Reading>],
     cells: &mut Cells<'_>,
-) -> Result<(), ListFault>
-    ensures prints { AppendsClosed (string_bytes text.old) result (Listing (record { pieces = length pieces.old; cells = counts cells.old }) case.now) (string_bytes text.new) }
-    ensures leaves { InMemory result (CaseLeaves case.now pieces.old pieces.new (contents cells.old) (contents cells.new)) }
-    ensures kept { counts cells.new ≡ counts cells.old }
-    ensures loans { SameLoans cells.old cells.new }
-{
-    let mut reader = CaseReader::new(case)?;
-    let heading = reader.heading()?;
-    let mut job = Job::open(heading.lines, pieces);
-    write_steps(text, &mut reader, &mut job, &heading.rule, cells)
-}
-
-// The listing of a case, on a job that keeps its lines in the lent pieces; the other cells are lent to the judge.
-// Behind a listing, `CaseLeaves` says what all five sorts of cells hold. Where memory ran out, only their numbers are known.
-pub fn list_case<'a>(
-    case: &[u8],
-    pieces: &mut [Piece<Reading>],
-    cells: &mut Cells<'a>,
-    heap: Global,
-) -> Result<String, AllocError>
-    ensures prints { IfOk result (λ text. Listing (lent_cells (length pieces.old) (length cells.old.truths.now) (length cells.old.margins.now) (length cells.old.wants.now) (length cells.old.marks.now)) case.now (string_bytes text)) }
+) -> io::Result<()>
+    ensures prints { WritesSome (W.contents sink.old) (W.contents sink.new) (Listing (lent_cells (length pieces.old) (length cells.old.truths.now) (length cells.old.margins.now) (length cells.old.wants.now) (length cells.old.marks.now)) case.now) result }
     ensures leaves { OnOk result (CaseLeaves case.now pieces.old pieces.new (contents cells.old) (contents cells.new)) }
     ensures kept { counts cells.new ≡ counts cells.old }
     ensures loans { SameLoans cells.old cells.new }
 {
-    let mut text = String::new(heap);
-    match write_case(&mut text, case, pieces, cells) {
-        Ok(()) => Ok(text),
-        Err(ListFault::Refused(refusal)) => {
-            write_refusal(&mut text, refusal)?;
-            Ok(text)
+    match Opening::read(case) {
+        Ok(opening) => {
+            let mut job = Job::open(opening.heading.lines, pieces);
+            // The lister is written out here, so that what it leaves in the job and in the cells is seen of those that are lent.
+            let mut lister = FieldLister {
+                reader: opening.reader,
+                job: &mut job,
+                rule: opening.heading.rule,
+                cells,
+                first: 0,
+                after: 0,
+                over: false,
+            };
+            write_rest(sink, &mut lister)
         }
-        Err(ListFault::NoMemory) => Err(AllocError),
+        Err(refusal) => write_line(sink, refusal_of(refusal)),
     }
 }

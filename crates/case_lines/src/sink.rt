@@ -6,10 +6,9 @@ ghost use Rattle.case_lines.specs.Buffers.{buffered, PutsLine};
 
 use crate::buffer::{BUFFER_BYTES, LINE_BYTES, LineBuffer};
 use crate::line::Line;
-use std::fmt;
 use std::fmt::Write as TextWrite;
-use std::io;
 use std::io::Write;
+use std::{fmt, io};
 
 impl LineBuffer {
     pub(crate) fn new() -> LineBuffer

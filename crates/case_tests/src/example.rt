@@ -1,13 +1,14 @@
 // A case with its listing.
-ghost use Rattle.std.specs.Prelude.{min, length, IfOk, string_bytes};
+ghost use Rattle.std.specs.Prelude.{min, IfOk};
 ghost use Rattle.case_lines.specs.Listings.{Listing, lent_cells};
 
 use case_lines::cells::PIECES;
-use case_lines::listing::list_case;
+use case_lines::listing::write_listing;
 use lent::blank::{BLANK_MARK, BLANK_WANT, blank_piece, blank_row};
 use lent::cells::Cells;
-use std::alloc::{AllocError, Global};
+use std::alloc::Global;
 use std::io;
+use std::io::Write;
 
 // The most cells of a sort that are lent to the judge.
 const MOST: usize = 64;
@@ -30,8 +31,8 @@ pub(crate) struct Example<'a> {
 }
 
 // The listing of the case, with 16 lines' piece cells.
-pub(crate) fn listing(heap: Global, lent: Lent, case: &[u8]) -> Result<String, AllocError>
-    ensures { IfOk result (λ text. Listing (lent_cells 1024 (min lent.rows 64) (min lent.rows 64) (min lent.wants 64) (min lent.marks 64)) case.now (string_bytes text)) }
+pub(crate) fn listing(heap: Global, lent: Lent, case: &[u8]) -> io::Result<Vec<u8>>
+    ensures { IfOk result (λ text. Listing (lent_cells 1024 (min lent.rows 64) (min lent.rows 64) (min lent.wants 64) (min lent.marks 64)) case.now text.items) }
 {
     // A program's cells are arrays of its own, handed on as slices.
     let mut pieces = [blank_piece(); PIECES];
@@ -48,16 +49,19 @@ pub(crate) fn listing(heap: Global, lent: Lent, case: &[u8]) -> Result<String, A
         wants: &mut wants[..want_cells],
         marks: &mut marks[..mark_cells],
     };
-    list_case(case, &mut pieces, &mut cells, heap)
+    let mut text = Vec::new(heap);
+    write_listing(&mut text, case, &mut pieces, &mut cells)?;
+    Ok(text)
 }
 
 // Prints whether the case lists what it should, and what it lists if not.
 pub(crate) fn note(rt: &HostRuntime, example: &Example<'_>) -> io::Result<()> {
     let title = example.title;
     let found = listing(rt.alloc(), example.lent, example.case)?;
-    if found.as_str() == example.lines {
+    if found.as_slice() == example.lines.as_bytes() {
         println!(rt; "{title}: right")
     } else {
-        println!(rt; "{title}: WRONG\n{found}")
+        println!(rt; "{title}: WRONG")?;
+        rt.stdout().write_all(found.as_slice())
     }
 }

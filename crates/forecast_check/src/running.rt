@@ -5,7 +5,7 @@ ghost use Rattle.case_lines.specs.Listings.{Listing, lent_cells};
 
 use crate::reading::{INPUT_BYTES, read_case};
 use case_lines::cells::{MARKS, PIECES, ROWS, WANTS};
-use case_lines::output::write_listing;
+use case_lines::listing::write_listing;
 use lent::blank::{BLANK_MARK, BLANK_WANT, blank_piece, blank_row};
 use lent::cells::Cells;
 use std::io;

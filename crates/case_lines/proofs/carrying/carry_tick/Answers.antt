@@ -1,4 +1,4 @@
-use Rattle.std.proofs.Common.{ℕ, List, [], ◌++◌, take, sym, ap, ◌∙◌, subst, append-nil, to_z-of_z, w32, SFits, rules}
+use Rattle.std.proofs.Common.{ℕ, take, sym, ap, ◌∙◌, subst, append-nil, to_z-of_z, w32, SFits, rules}
 use Rattle.rules.specs.Texts.{table_of}
 use Rattle.jobs.specs.Jobs.{state_of}
 use Rattle.case_lines.specs.Lines.{refused_line, mark_lines}

@@ -13,6 +13,6 @@ returns-in_err-hold_line g c =
     let before = buffered c.args.buffer.now in
     broke a (g.W.Write.contents c.if-buffer-lt-LINE_BYTES.sink) before (line_text c.args.line) (buffered c.hold_line.new.self) c.from_residual-in_err-hold_line.result p.0 p.1
     (elim c.if-buffer-lt-LINE_BYTES.branch [
-      then-buffer-lt-LINE_BYTES+in_ok-send w ↦ rw w.sink-is (all_sent a (g.W.Write.contents w.send.new.sink) before w.in_ok-send.ensures.sends)
-    | else-buffer-lt-LINE_BYTES w ↦ rw w.sink-is (none_sent a before)
+      | then-buffer-lt-LINE_BYTES+in_ok-send w ↦ rw w.sink-is (all_sent a (g.W.Write.contents w.send.new.sink) before w.in_ok-send.ensures.sends)
+      | else-buffer-lt-LINE_BYTES w ↦ rw w.sink-is (none_sent a before)
     ])

@@ -1,4 +1,4 @@
-use Rattle.std.proofs.Common.{ℕ, ◌≤◌, length, take, sym, subst, arith, rules}
+use Rattle.std.proofs.Common.{ℕ, ◌≤◌, length, take, sym, subst, rules}
 use Rattle.std.specs.Io.KnownBytes.{Appends}
 use Rattle.std.proofs.KnownBytes.{Appends-kept}
 use Rattle.case_lines.proofs.Sunk.{cut, more}
@@ -18,8 +18,8 @@ pub loop-preserved : goal.loop-preserved
 loop-preserved g c =
     let P : ℕ → Type 0 = λ d. (d ≤ length c.args.bytes.now) × Appends (g.W.Write.contents c.args.sink.now) (g.W.Write.contents c.write.new.self) (take d c.args.bytes.now) in
     elim c.match-write.branch [
-      in-Ok w ↦ subst P (sym w.done-is) (search rules, more _ _ _ _ c.loop.done _ c.loop.invariant.1 w.in-Ok.ensures.bytes)
-    | in-Err w ↦ subst P (sym w.done-is) (c.loop.invariant.0, Appends-kept _ _ _ _ c.loop.invariant.1 w.in-Err.ensures.bytes)
+      | in-Ok w ↦ subst P (sym w.done-is) (search rules, more _ _ _ _ c.loop.done _ c.loop.invariant.1 w.in-Ok.ensures.bytes)
+      | in-Err w ↦ subst P (sym w.done-is) (c.loop.invariant.0, Appends-kept _ _ _ _ c.loop.invariant.1 w.in-Err.ensures.bytes)
     ]
 
 pub returns : goal.returns

@@ -1,6 +1,5 @@
-use Rattle.std.proofs.Common.{List, ℕ, ◌∷◌, [], ◌++◌, ap, ◌∙◌}
+use Rattle.std.proofs.Common.{List, ℕ, ◌++◌, ap, ◌∙◌}
 use Rattle.std.proofs.lemmas.Fmt.{contents_after_writes}
-use Rattle.case_lines.specs.LineTexts.{line_shown}
 use Rattle.case_lines.specs.Buffers.{buffered}
 use Rattle.case_lines.proofs.Lined.{ended}
 use Rattle.case_lines.proofs.buffer.LineBuffer.hold_line.Goals as goal

@@ -1,11 +1,10 @@
 use Rattle.std.proofs.Common.{ℕ, List, refl, sym, subst}
 use Rattle.rules.specs.Texts.{table_of}
 use Rattle.runs.specs.States.{State, opened, line_count}
-use Rattle.jobs.specs.Jobs.{state_of}
 use Rattle.cases.specs.Readers.{left_of, next_of}
 use Rattle.cases.specs.Headings.{OpenedCase}
 use Rattle.lent.specs.Holding.{counts}
-use Rattle.case_lines.specs.Listings.{LentCells, ListsFields, listed}
+use Rattle.case_lines.specs.Listings.{ListsFields, listed}
 use Rattle.case_lines.proofs.Whole.{listed_only}
 use Rattle.case_lines.proofs.field_lister.FieldLister.new.Goals as goal
 

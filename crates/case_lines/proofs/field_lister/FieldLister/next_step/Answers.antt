@@ -1,4 +1,4 @@
-use Rattle.std.proofs.Common.{◌≡◌, ℕ, ◌++◌, List, false, Ok, Option, None, Some, length, take, drop, sym, ap, ◌∙◌, subst, arith}
+use Rattle.std.proofs.Common.{◌≡◌, ℕ, ◌++◌, false, Ok, Option, length, take, drop, sym, ap, ◌∙◌, subst, arith}
 use Rattle.rules.specs.Texts.{table_of}
 use Rattle.jobs.specs.Jobs.{state_of}
 use Rattle.cases.specs.declared.call.Step.{Step}
@@ -64,8 +64,7 @@ loop-self-preserved c =
     let inv = c.loop-self.invariant in
     let live : here.over ≡ false = c.loop-self-test.true in
     let x : Stepped = record { field = c.in-Ok-Some.step.field; item = call_item c.in-Ok-Some.step.call; next = next_of c.step.new.self; rest = left_of c.step.new.self } in
-    let steps = subst (λ (o : Option Step). Steps (next_of here.reader) (left_of here.reader) (step_reply (Ok o) c.step.new.self)) c.in-Ok-Some.field-0-is c.in-Ok-Some.ensures.answer in
-    (
+    let steps = subst (λ (o : Option Step). Steps (next_of here.reader) (left_of here.reader) (step_reply (Ok o) c.step.new.self)) c.in-Ok-Some.field-0-is c.in-Ok-Some.ensures.answer in (
       λ more l. inv.0 more
           (at_silence (counts here.cells.now) (table_of here.rule) (next_of here.reader) (state_of here.job.now) (left_of here.reader) here.over live x steps
           (state_of c.carry_step-printed.new.job) (counts c.carry_step-printed.new.cells) c.carry_step-printed.ensures.kept (maybe_printed c.carry_step-printed.result c.carry_step-printed.new.cells.marks.now) (ap (λ (o : Option Printed). maybe_printed o c.carry_step-printed.new.cells.marks.now) c.in_default.is) c.carry_step-printed.ensures.does more l),

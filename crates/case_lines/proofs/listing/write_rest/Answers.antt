@@ -5,7 +5,7 @@ use Rattle.case_lines.specs.Buffers.{buffered}
 use Rattle.case_lines.specs.Rests.{RestPrints}
 use Rattle.case_lines.proofs.Left.{carried_twice, same_twice}
 use Rattle.case_lines.proofs.Resting.{Unsent, start, one_more, unsent_on, unsent_back, broken, failed, at_last}
-use Rattle.case_lines.proofs.output.write_rest.Goals as goal
+use Rattle.case_lines.proofs.listing.write_rest.Goals as goal
 
 pub loop-line-init : goal.loop-line-init
 loop-line-init g c =

@@ -1,4 +1,4 @@
-use Rattle.std.proofs.Common.{◌≡◌, ℕ, List, length, Ok, sym, rules, subst}
+use Rattle.std.proofs.Common.{◌≡◌, ℕ, List, length, sym, rules, subst}
 use Rattle.rules.specs.Texts.{table_of}
 use Rattle.pieces.specs.declared.piece.Piece.{Piece}
 use Rattle.meaning.specs.declared.reading.Reading.{Reading}
@@ -9,13 +9,12 @@ use Rattle.cases.specs.Headings.{OpenedCase}
 use Rattle.case_lines.specs.LineTexts.{line_text}
 use Rattle.case_lines.specs.Listings.{LentCells, ListsFields, Listing}
 use Rattle.case_lines.specs.Leaves.{CaseLeaves, CarriedOn}
-use Rattle.case_lines.specs.Rests.{RestLeaves}
 use Rattle.case_lines.proofs.Left.{case_left}
 use Rattle.case_lines.proofs.OneListing.{one_listing}
 use Rattle.case_lines.proofs.OnOks.{on_ok, ok_anyway}
 use Rattle.case_lines.proofs.Resting.{alike, lone}
 use Rattle.case_lines.proofs.Whole.{begun_lists, lists_begun}
-use Rattle.case_lines.proofs.output.write_listing.Goals as goal
+use Rattle.case_lines.proofs.listing.write_listing.Goals as goal
 
 pub returns-in-Ok-clause-prints : goal.returns-in-Ok-clause-prints
 returns-in-Ok-clause-prints g c =
@@ -39,7 +38,7 @@ returns-in-Ok-clause-leaves g c =
     on_ok c.write_rest.result _ (CaseLeaves c.args.case.now c.args.pieces.now c.pieces-1.given.0 (contents c.args.cells.now) (contents c.cells-1.given.0))
     (λ l.
     let left : CaseLeaves c.args.case.now c.args.pieces.now (cells_of new.job.now) (contents c.args.cells.now) (contents new.cells.now) =
-    case_left c.args.case.now c.args.pieces.now o read.0 read.1 c.open-job.result new.job.now c.open-job.ensures.state c.open-job.ensures.behind on (Ok tt) (contents c.args.cells.now) (contents new.cells.now) l in
+    case_left c.args.case.now c.args.pieces.now o read.0 read.1 c.open-job.result new.job.now c.open-job.ensures.state c.open-job.ensures.behind on (contents c.args.cells.now) (contents new.cells.now) l in
     subst (λ (v : List (Piece Reading)). CaseLeaves c.args.case.now c.args.pieces.now v (contents c.args.cells.now) (contents c.cells-1.given.0)) (search rules)
     (subst (λ (w : Contents). CaseLeaves c.args.case.now c.args.pieces.now (cells_of new.job.now) (contents c.args.cells.now) w) (search rules) left))
     c.write_rest.ensures.leaves

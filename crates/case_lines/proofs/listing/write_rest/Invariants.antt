@@ -1,4 +1,4 @@
-use Rattle.std.proofs.Common.{◌≡◌, ℕ}
+use Rattle.std.proofs.Common.{◌≡◌}
 use Rattle.runs.specs.States.{State}
 use Rattle.jobs.specs.Jobs.{SameLoan}
 use Rattle.lent.specs.Holding.{Contents, counts, SameLoans}
@@ -6,7 +6,7 @@ use Rattle.case_lines.specs.Leaves.{CarriedOn}
 use Rattle.case_lines.specs.Buffers.{buffered}
 use Rattle.case_lines.specs.Rests.{RestPrints, RestLeaves, work_left}
 use Rattle.case_lines.proofs.Resting.{Sofar, Unsent}
-use Rattle.case_lines.proofs.output.write_rest.Given as goal
+use Rattle.case_lines.proofs.listing.write_rest.Given as goal
 
 abbrev pub invariant-loop-line : goal.invariant-loop-line
 invariant-loop-line g l =
