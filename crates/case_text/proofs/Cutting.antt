@@ -47,9 +47,9 @@ parted_word b bs e t = record {
   left = t.left ∙ ap (λ (n : ℕ). words_of (drop n (b ∷ bs))) (sym (one_longer b bs e));
 }
 
-parted : (bs : List ℕ) → Parted bs
-parted [] = record { more = []; cut = refl; left = refl }
-parted (b ∷ bs) = elim (gap_byte b) as (λ v. gap_byte b ≡ v → Parted (b ∷ bs)) [ true ↦ λ e. parted_gap b bs e | false ↦ λ e. parted_word b bs e (parted bs) ] refl
+parted_all : (bs : List ℕ) → Parted bs
+parted_all [] = record { more = []; cut = refl; left = refl }
+parted_all (b ∷ bs) = elim (gap_byte b) as (λ v. gap_byte b ≡ v → Parted (b ∷ bs)) [ true ↦ λ e. parted_gap b bs e | false ↦ λ e. parted_word b bs e (parted_all bs) ] refl
 
 word_some : (bs : List ℕ) → (from_word bs ≡ [] → ⊥) → some_bytes (first_word bs) ≡ true
 word_some [] h = absurd (h refl)
@@ -61,7 +61,7 @@ word_some (b ∷ bs) h =
 
 pub words_begin : (bs : List ℕ) → (from_word bs ≡ [] → ⊥) → words_of bs ≡ first_word bs ∷ words_of (behind_word bs)
 words_begin bs h =
-    let t = parted (from_word bs) in
+    let t = parted_all (from_word bs) in
     sym (words_skip bs) ∙
     ap (filter some_bytes) t.cut ∙
     ap (λ (v : Bool). cond v (first_word bs ∷ filter some_bytes t.more) (filter some_bytes t.more)) (word_some bs h) ∙

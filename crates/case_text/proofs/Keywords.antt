@@ -1,5 +1,5 @@
 -- What a line says, by its first word.
-use Rattle.std.proofs.Common.{◌≡◌, ℕ, ◌+◌, ◌<◌, ◌≤◌, Bool, true, false, List, [], ◌∷◌, length, Some, None, codes, Option, sym, refl, ap, ◌∙◌, subst, arith}
+use Rattle.std.proofs.Common.{◌≡◌, ℕ, ◌<◌, ◌≤◌, Bool, true, false, List, [], ◌∷◌, length, Some, None, codes, Option, sym, ap, ◌∙◌, subst, arith}
 use mathlib.Core.List.{head-eq_of_cons-eq}
 use Rattle.tokens.specs.Words.{IsName}
 use Rattle.cases.specs.declared.field.Entry.{Entry}
@@ -7,7 +7,7 @@ use Rattle.cases.specs.declared.field.Content.{Content}
 use Rattle.cases.specs.Contents.{Item, name, rule, entry, tick, item_of}
 use Rattle.case_text.specs.Pieces.{spoken, words_of, from_word, first_word, behind_word}
 use Rattle.case_text.specs.Words.{WholeNumber, WordsEnter}
-use Rattle.case_text.specs.Sayings.{Silent, LineSays, a_name, a_rule, an_entry, a_tick, Foregone, PlacedBy, MayCome, Speaks}
+use Rattle.case_text.specs.Sayings.{Silent, LineSays, a_name, a_rule, an_entry, a_tick, Foregone, PlacedBy, MayCome}
 use Rattle.case_text.specs.Parts.{Begins, ContentOf, NameContent, EntryContent, TickContent, FitsField}
 use Rattle.case_text.proofs.Cutting.{none_first}
 

@@ -5,8 +5,8 @@ use Rattle.std.proofs.lemmas.Bool.{cases_order}
 use Rattle.std.specs.List.{AllByRecursion}
 use Rattle.tokens.specs.Words.{Digit}
 use Rattle.cases.specs.declared.field.Entry.{Entry}
-use Rattle.cases.specs.Contents.{Item, name, rule, entry, tick}
-use Rattle.case_text.specs.Pieces.{lines_of, spoken, first_word, behind_word}
+use Rattle.cases.specs.Contents.{Item, name, entry, tick}
+use Rattle.case_text.specs.Pieces.{lines_of, spoken, behind_word}
 use Rattle.case_text.specs.Words.{WholeNumber, PlainNumber, MinusNumber, WritesReading, plain, minus, FirstNamed, WordsEnter}
 use Rattle.case_text.specs.Sayings.{Silent, LineSays, a_name, a_rule, an_entry, a_tick, Foregone, and_then, and_all, at_first, MayCome, Speaks, SpeaksNot, Bad, LinesSay}
 use Rattle.case_text.specs.Sayings as say
@@ -58,8 +58,8 @@ one_item names line i j (a_tick e n k p) (an_entry f m q) = absurd (omega (arith
 one_item names line i j (a_tick {w = w} {n = t} e n k p) (a_tick {w = v} {n = u} f m o q) = p ∙ ap tick (k.value ∙ sym (subst (λ (x : List ℕ). WholeNumber x u) (head-eq_of_cons-eq (sym m ∙ n)) o).value) ∙ sym q
 
 -- a line that says what may not stand there says nothing else
-pub misplaced : (g : Foregone) (line : List ℕ) (i : Item) → LineSays g.names line i → (MayCome g i → ⊥) → SpeaksNot g line
-misplaced g line i says bars = λ j s. bars (subst (MayCome g) (one_item g.names line j i s.says says) s.place)
+pub barred_here : (g : Foregone) (line : List ℕ) (i : Item) → LineSays g.names line i → (MayCome g i → ⊥) → SpeaksNot g line
+barred_here g line i says bars = λ j s. bars (subst (MayCome g) (one_item g.names line j i s.says says) s.place)
 
 -- a line and those behind it, by what the line says
 data FirstLine (g : Foregone) (line : List ℕ) (more : List (List ℕ)) (items : List Item) : Type 0 where

@@ -1,5 +1,5 @@
 -- The pieces of a text: its lines, what a line says without its end, and the words of that.
-use Rattle.std.specs.Prelude.{◌≡◌, ℕ, ◌+◌, ◌-◌, Bool, true, false, cond, not, ◌&&◌, ◌||◌, List, [], ◌∷◌, length, get_or, take, drop, ◌==◌, filter, take_while}
+use Rattle.std.specs.Prelude.{ℕ, ◌+◌, ◌-◌, Bool, true, false, cond, not, ◌&&◌, ◌||◌, List, [], ◌∷◌, length, get_or, take, drop, ◌==◌, filter, take_while}
 use Rattle.std.specs.List.{slice_split, prefix_len, suffix_len}
 
 -- each byte 10 ends a line and begins another

@@ -6,7 +6,7 @@ use Rattle.case_text.specs.Sayings.{LineSays}
 use Rattle.case_text.specs.Parts.{foregone, took, AddsField}
 use Rattle.case_text.proofs.Growing.{adds_size}
 use Rattle.case_text.proofs.Keywords.{fits_here}
-use Rattle.case_text.proofs.OneAnswer.{misplaced}
+use Rattle.case_text.proofs.OneAnswer.{barred_here}
 use Rattle.case_text.proofs.packing.Before.take.Goals as goal
 
 pub put-requires : goal.put-requires
@@ -25,7 +25,7 @@ pub returns-then-not-lets : goal.returns-then-not-lets
 returns-then-not-lets c = (
   record {
     loud = λ s. both_ways _ c.if-is_silent.false (c.is_silent.ensures.1 s);
-    none = misplaced (foregone c.args.self.now) c.args.line.now (item_of c.in-Some.content) (subst (λ (v : List (List ℕ)). LineSays v c.args.line.now (item_of c.in-Some.content)) (ap texts c.as_slice.ensures.value) c.in-Some.ensures) (λ m. both_ways _ refl (c.if-not-lets.ensures.1 m));
+    none = barred_here (foregone c.args.self.now) c.args.line.now (item_of c.in-Some.content) (subst (λ (v : List (List ℕ)). LineSays v c.args.line.now (item_of c.in-Some.content)) (ap texts c.as_slice.ensures.value) c.in-Some.ensures) (λ m. both_ways _ refl (c.if-not-lets.ensures.1 m));
   },
   refl,
 )
