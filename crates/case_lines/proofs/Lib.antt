@@ -9,3 +9,10 @@ pub mod Left
 pub mod ListingRuns
 pub mod SomeListing
 pub mod OneLeaving
+pub mod Lined
+pub mod Tolds
+pub mod Steps
+pub mod Sunk
+pub mod Resting
+pub mod OnOks
+pub mod EachListing

@@ -68,16 +68,16 @@ same_entry e f h = cc
 pub same_tick : (t u : ℕ) → tick t ≡ tick u → t ≡ u
 same_tick t u h = cc
 
-step_apart : (o : Option Stepped) (e : CaseRefusal) → ◌≡◌ {A = Result (Option Stepped) CaseRefusal} (Ok o) (Err e) → ⊥
+pub step_apart : (o : Option Stepped) (e : CaseRefusal) → ◌≡◌ {A = Result (Option Stepped) CaseRefusal} (Ok o) (Err e) → ⊥
 step_apart o e h = let z : ◌≡◌ {A = ℕ} 0 1 = cc in omega arith
 
-none_some : (x : Stepped) → ◌≡◌ {A = Result (Option Stepped) CaseRefusal} (Ok None) (Ok (Some x)) → ⊥
+pub none_some : (x : Stepped) → ◌≡◌ {A = Result (Option Stepped) CaseRefusal} (Ok None) (Ok (Some x)) → ⊥
 none_some x h = let z : ◌≡◌ {A = ℕ} 0 1 = cc in omega arith
 
-same_refusal : (x y : CaseRefusal) → ◌≡◌ {A = Result (Option Stepped) CaseRefusal} (Err x) (Err y) → x ≡ y
+pub same_refusal : (x y : CaseRefusal) → ◌≡◌ {A = Result (Option Stepped) CaseRefusal} (Err x) (Err y) → x ≡ y
 same_refusal x y h = cc
 
-same_step : (x y : Stepped) → ◌≡◌ {A = Result (Option Stepped) CaseRefusal} (Ok (Some x)) (Ok (Some y)) → x ≡ y
+pub same_step : (x y : Stepped) → ◌≡◌ {A = Result (Option Stepped) CaseRefusal} (Ok (Some x)) (Ok (Some y)) → x ≡ y
 same_step x y h = cc
 
 module _ (cells : CellCounts) (rows : List Row) where
@@ -106,7 +106,7 @@ module _ (cells : CellCounts) (rows : List Row) where
       (h.prints ∙ ap (entry_text k) one.reply ∙ sym g.prints, one.end)
 
   -- a field does one thing
-  does_one : (k : ℕ) (i : Item) (s z y : State) (v u : List ℕ) → Does cells rows k i s z v → Does cells rows k i s y u → (v ≡ u) × (z ≡ y)
+  pub does_one : (k : ℕ) (i : Item) (s z y : State) (v u : List ℕ) → Does cells rows k i s z v → Does cells rows k i s y u → (v ≡ u) × (z ≡ y)
   does_one k i s z y v u (enters e p h) (enters f q g) = enters_one k e s z y v u h (subst (λ (x : Entry). CarriesEntry k x s y u) (same_entry f e (sym q ∙ p)) g)
   does_one k i s z y v u (enters e p h) (ticks t q g j) = absurd (entry_tick e t (sym p ∙ q))
   does_one k i s z y v u (ticks t p h j) (enters e q g) = absurd (entry_tick e t (sym q ∙ p))

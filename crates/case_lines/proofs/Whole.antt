@@ -4,11 +4,14 @@ use Rattle.runs.specs.States.{State, opened, line_count}
 use Rattle.cases.specs.declared.fault.CaseRefusal.{CaseRefusal}
 use Rattle.cases.specs.Headings.{OpenedCase, Opens}
 use Rattle.cases.specs.Steps.{Sized}
+use Rattle.cases.proofs.OneReading.{one_opening}
+use Rattle.cases.proofs.OpenedRules.{heading_apart, same_heading}
 use Rattle.case_lines.specs.declared.fault.ListFault.{ListFault}
 use Rattle.case_lines.specs.declared.fault.ListFault.TheVariants.{Refused, NoMemory}
 use Rattle.case_lines.specs.Lines.{refusal_line}
 use Rattle.case_lines.specs.Writes.{AppendsClosed}
 use Rattle.case_lines.specs.Listings.{ListsFields, LentCells, Listing, too_long, no_heading, listed}
+use Rattle.case_lines.proofs.OneListing.{sized_one}
 
 -- a stronger property of what is added
 closed : (P Q : List ℕ → Type 0) (before after : List ℕ) (r : Result (Unit {0}) ListFault) → ((v : List ℕ) → P v → Q v) → AppendsClosed before r P after → AppendsClosed before r Q after
@@ -40,3 +43,18 @@ module _ (lent : LentCells) (case before after : List ℕ) (none : before ≡ []
 
   pub refused : (e : CaseRefusal) (later : List ℕ) → AppendsClosed before (Err (Refused e)) (Listing lent case) after → later ≡ after ++ refusal_line e → Listing lent case later
   refused e later h w = subst (Listing lent case) (sym (w ∙ ap (λ (v : List ℕ). v ++ refusal_line e) (h.2 ∙ ap (λ (v : List ℕ). v ++ h.0) none))) h.1
+
+-- a listing behind a heading that is read is what the fields behind it print
+pub listed_only : (lent : LentCells) (case text : List ℕ) (o : OpenedCase) → Sized case (Ok tt) → Opens 1 [] case (Ok o) → Listing lent case text → ListsFields lent.cells o.rows o.next (opened (line_count o.lines lent.pieces)) o.rest text
+listed_only lent case text o sized opens (too_long e p q) = absurd (sized_one case e sized p)
+listed_only lent case text o sized opens (no_heading e p g q) = absurd (heading_apart o e (one_opening 1 [] case (Ok o) (Err e) opens g))
+listed_only lent case text o sized opens (listed i p g l) =
+    subst (λ (x : OpenedCase). ListsFields lent.cells x.rows x.next (opened (line_count x.lines lent.pieces)) x.rest text) (same_heading i o (one_opening 1 [] case (Ok i) (Ok o) g opens)) l
+
+-- and what the fields behind such a heading print is a listing
+module _ (lent : LentCells) (case : List ℕ) (o : OpenedCase) (sized : Sized case (Ok tt)) (opens : Opens 1 [] case (Ok o)) (s : State) (is : s ≡ opened (line_count o.lines lent.pieces)) where
+  pub begun_lists : (text more : List ℕ) → ListsFields lent.cells o.rows o.next s o.rest more → text ≡ more → Listing lent case text
+  begun_lists text more l e = listed o sized opens (subst (λ (v : List ℕ). ListsFields lent.cells o.rows o.next (opened (line_count o.lines lent.pieces)) o.rest v) (sym e) (subst (λ (z : State). ListsFields lent.cells o.rows o.next z o.rest more) is l))
+
+  pub lists_begun : (text : List ℕ) → Listing lent case text → (more : List ℕ) × ListsFields lent.cells o.rows o.next s o.rest more × (text ≡ more)
+  lists_begun text l = (text, subst (λ (z : State). ListsFields lent.cells o.rows o.next z o.rest text) (sym is) (listed_only lent case text o sized opens l), refl)

@@ -5,3 +5,8 @@ pub mod Listings
 pub mod Leaves
 pub mod Runs
 pub mod Laws
+pub mod LineTexts
+pub mod PrintedTexts
+pub mod Rests
+pub mod Fronts
+pub mod Buffers

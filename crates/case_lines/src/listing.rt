@@ -15,7 +15,6 @@ use crate::ticking::write_tick;
 use crate::writing::write_refusal;
 use cases::call::{Call, Step};
 use cases::reader::CaseReader;
-use cases::stepping::check_size;
 use jobs::job::Job;
 use lent::cells::Cells;
 use meaning::reading::Reading;
@@ -78,8 +77,7 @@ fn write_case(
     ensures kept { counts cells.new ≡ counts cells.old }
     ensures loans { SameLoans cells.old cells.new }
 {
-    check_size(case)?;
-    let mut reader = CaseReader::new(case);
+    let mut reader = CaseReader::new(case)?;
     let heading = reader.heading()?;
     let mut job = Job::open(heading.lines, pieces);
     write_steps(text, &mut reader, &mut job, &heading.rule, cells)

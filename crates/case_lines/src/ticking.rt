@@ -29,14 +29,14 @@ use std::alloc::AllocError;
 // The verdict at a tick with its margin, and how many marks it has.
 #[derive(Clone, Copy)]
 pub(crate) struct Told {
-    verdict: Range<Truth>,
-    margin: Range<Margin>,
+    pub(crate) verdict: Range<Truth>,
+    pub(crate) margin: Range<Margin>,
     // The marks are the first so many of the mark cells.
-    marks: usize,
+    pub(crate) marks: usize,
 }
 
 // Judges at the tick in truth and in margin, and marks; or the first that stands against it.
-fn tell<'j>(cells: &mut Cells<'_>, job: &Job<'j>, rule: &Rule, tick: u32) -> Result<Told, MarkFault>
+pub(crate) fn tell<'j>(cells: &mut Cells<'_>, job: &Job<'j>, rule: &Rule, tick: u32) -> Result<Told, MarkFault>
     ensures told { (k : ℕ) → Ticks (counts cells.old) (table_of rule.now) k tick (state_of job.now) (told_text k tick cells.new.marks.now result) }
     ensures fits { IfOk result (λ x. x.marks ≤ length cells.new.marks.now) }
     ensures kept { counts cells.new ≡ counts cells.old }

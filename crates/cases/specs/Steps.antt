@@ -1,5 +1,6 @@
 -- What a case's fields behind the rule answer, one by one.
 use Rattle.std.specs.Prelude.{◌≡◌, ℕ, ◌+◌, ◌<◌, ◌≤◌, List, [], length, Some, None, Ok, Err, Option, Result}
+use Rattle.std.specs.Borrow.{Bor}
 use Rattle.cases.specs.declared.call.Call.{Call}
 use Rattle.cases.specs.declared.call.Call.TheVariants.{Enter, Judge}
 use Rattle.cases.specs.declared.call.Step.{Step}
@@ -17,6 +18,18 @@ use Rattle.cases.specs.Readers.{left_of, next_of}
 abbrev pub Sized : List ℕ → Result (Unit {0}) CaseRefusal → Type 0
 Sized case (Ok u) = length case ≤ 16384
 Sized case (Err e) = (16384 < length case) × (e ≡ refusal 0 TooLong)
+
+-- a reader of a case stands before its first field
+pub record BeforeFirst (case : Bor (List ℕ)) (r : CaseReader) : Type 0 where
+  pub sized : Sized case.now (Ok tt)
+  pub same : r.bytes ≡ case
+  pub left : left_of r ≡ case.now
+  pub number : r.number ≡ 0
+
+-- a case of at most 16,384 bytes has such a reader, and a longer one none
+abbrev pub StandsFirst : Bor (List ℕ) → Result CaseReader CaseRefusal → Type 0
+StandsFirst case (Ok r) = BeforeFirst case r
+StandsFirst case (Err e) = Sized case.now (Err e)
 
 -- an entry or a tick, the number of its field and of the next one, and the bytes from there on
 pub record Stepped : Type 0 where

@@ -1,23 +1,24 @@
 // Reading a case field by field.
-ghost use Rattle.std.specs.Prelude.{◌≡◌};
-ghost use Rattle.cases.specs.Readers.{left_of, NextField};
+ghost use Rattle.cases.specs.Readers.{NextField};
+ghost use Rattle.cases.specs.Steps.{StandsFirst};
 
 use crate::fault::{CaseFault, CaseRefusal};
 use crate::field::Field;
-use crate::reader::CaseReader;
+use crate::reader::{CASE_BYTES, CaseReader};
 
 impl<'a> CaseReader<'a> {
-    // Before the first field.
-    pub fn new(bytes: &'a [u8]) -> CaseReader<'a>
-        ensures bytes { result.bytes ≡ bytes.entry }
-        ensures left { left_of result ≡ bytes.now }
-        ensures number { result.number ≡ 0 }
+    /// A reader before the first field of the case. A case of over 16,384 bytes has none: it is refused as a whole, with 22.
+    pub fn new(bytes: &'a [u8]) -> Result<CaseReader<'a>, CaseRefusal>
+        ensures { StandsFirst bytes.entry result }
     {
-        CaseReader {
+        if bytes.len() > CASE_BYTES {
+            return Err(CaseFault::TooLong.at(0));
+        }
+        Ok(CaseReader {
             bytes,
             at: 0,
             number: 0,
-        }
+        })
     }
 
     // The next field, if there is one; one that is cut short is refused. Either of these leaves the reader where it stands.

@@ -1,25 +1,11 @@
 // Reading the fields behind the rule.
-ghost use Rattle.std.specs.Prelude.{◌<◌, ◌≤◌, length};
 ghost use Rattle.cases.specs.Readers.{left_of, next_of, Asked};
-ghost use Rattle.cases.specs.Steps.{Called, Steps, step_reply, Sized};
+ghost use Rattle.cases.specs.Steps.{Called, Steps, step_reply};
 
 use crate::call::{Call, Step};
 use crate::fault::{CaseFault, CaseRefusal};
 use crate::field::{Content, Field};
 use crate::reader::CaseReader;
-
-// The most bytes of a case.
-pub const CASE_BYTES: usize = 16_384;
-
-// Refuses a case that is too long, before any field is read.
-pub fn check_size(case: &[u8]) -> Result<(), CaseRefusal>
-    ensures { Sized case.now result }
-{
-    if case.len() > CASE_BYTES {
-        return Err(CaseFault::TooLong.at(0));
-    }
-    Ok(())
-}
 
 // The call, if the field is an entry or a tick.
 fn call_of(field: Field<'_>) -> Result<Call, CaseFault>

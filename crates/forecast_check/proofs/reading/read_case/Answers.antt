@@ -1,6 +1,6 @@
 use Rattle.std.proofs.Common.{◌≡◌, length, rules}
 use Rattle.forecast_check.proofs.Filled.{first_read}
-use Rattle.forecast_check.proofs.read_case.Goals as goal
+use Rattle.forecast_check.proofs.reading.read_case.Goals as goal
 
 pub returns-clause-bytes : goal.returns-clause-bytes
 returns-clause-bytes g c =
