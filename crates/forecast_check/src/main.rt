@@ -3,6 +3,8 @@
 
 mod reading;
 pub mod running;
+#[cfg(test)]
+mod sips;
 
 use crate::running::run;
 use std::io;
