@@ -6,7 +6,7 @@ ghost use Rattle.case_text.specs.Parts.{FitsField, AddsField};
 
 use arrayvec::ArrayVec;
 use cases::field::{Content, ENTRY_BYTES, Entry, TICK_BYTES};
-use cases::stepping::CASE_BYTES;
+use cases::reader::CASE_BYTES;
 use cases::tag;
 
 // The tag, the length in two bytes, and the body.

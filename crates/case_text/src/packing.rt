@@ -12,7 +12,7 @@ use crate::line::{content_of, is_silent};
 use arrayvec::ArrayVec;
 use cases::field::{Content, ENTRY_BYTES, TICK_BYTES};
 use cases::names::{NAMES, admits};
-use cases::stepping::CASE_BYTES;
+use cases::reader::CASE_BYTES;
 
 const LINE_END: u8 = b'\n';
 
