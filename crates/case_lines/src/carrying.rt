@@ -5,34 +5,20 @@ ghost use Rattle.rules.specs.Texts.{table_of};
 ghost use Rattle.jobs.specs.Jobs.{state_of, SameLoan};
 ghost use Rattle.cases.specs.Steps.{call_item};
 ghost use Rattle.case_lines.specs.Calls.{CarriesEntry};
-ghost use Rattle.case_lines.specs.Lines.{refusal_line};
 ghost use Rattle.lent.specs.Holding.{contents, counts, SameLoans};
 ghost use Rattle.case_lines.specs.Listings.{Ticks, Does};
 ghost use Rattle.case_lines.specs.Leaves.{TickLeaves, FieldLeaves, CarriedOn};
-ghost use Rattle.case_lines.specs.LineTexts.{line_text};
 ghost use Rattle.case_lines.specs.PrintedTexts.{maybe_printed, printed_text};
 
 use crate::line::Line;
 use crate::printed::Printed;
 use crate::ticking::tell;
 use cases::call::{Call, Step};
-use cases::fault::CaseRefusal;
 use cases::field::Entry;
 use jobs::job::Job;
 use lent::cells::Cells;
 use meaning::outcome::Outcome;
 use rules::rule::Rule;
-
-// The line that tells why a case is refused.
-pub fn refusal_of(refusal: CaseRefusal) -> Line
-    ensures { line_text result ≡ refusal_line refusal }
-{
-    Line::Refused {
-        number: refusal.fault.number(),
-        field: refusal.field,
-        byte: refusal.fault.place(),
-    }
-}
 
 // Enters a reading; only a refusal is told.
 fn carry_entry<'a>(job: &mut Job<'a>, field: usize, entry: Entry) -> Option<Printed>

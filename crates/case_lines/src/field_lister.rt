@@ -4,7 +4,7 @@ use jobs::job::Job;
 use lent::cells::Cells;
 use rules::rule::Rule;
 
-// The fields that are left, the job that they are carried out on, the lent cells, and the marks that wait to be told.
+/// The fields that are left, the job that they are carried out on, the lent cells, and the marks that wait to be told.
 #[derive(Drop)]
 pub struct FieldLister<'c, 'j, 'k, 'p, 'l> {
     pub(crate) reader: CaseReader<'c>,

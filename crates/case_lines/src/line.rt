@@ -1,13 +1,15 @@
 // A line of a listing, as a value.
-ghost use Rattle.std.specs.Prelude.{Some};
-ghost use Rattle.case_lines.specs.LineTexts.{line_shown};
+ghost use Rattle.std.specs.Prelude.{◌≡◌, Some};
+ghost use Rattle.case_lines.specs.Lines.{refusal_line};
+ghost use Rattle.case_lines.specs.LineTexts.{line_shown, line_text};
 
 use crate::lines::OutcomeText;
+use cases::fault::CaseRefusal;
 use meaning::mark::Mark;
 use meaning::outcome::Outcome;
 use std::fmt;
 
-// What a line says. How it is printed ends before the line's end.
+/// What a line says. How it is printed ends before the line's end.
 #[derive(Clone, Copy)]
 pub enum Line {
     // What is refused, by its number, the field that it is about, and the byte of the rule, if it is about the rule.
@@ -55,5 +57,16 @@ impl fmt::Display for Line {
             }
             Line::Marked(Mark { row, first, after }) => write!(f, "{row} {first} {after}"),
         }
+    }
+}
+
+/// The line that tells why a case is refused.
+pub fn refusal_of(refusal: CaseRefusal) -> Line
+    ensures { line_text result ≡ refusal_line refusal }
+{
+    Line::Refused {
+        number: refusal.fault.number(),
+        field: refusal.field,
+        byte: refusal.fault.place(),
     }
 }

@@ -10,9 +10,9 @@ ghost use Rattle.case_lines.specs.Leaves.{FieldsLeave, CarriedOn};
 ghost use Rattle.case_lines.specs.LineTexts.{line_text};
 ghost use Rattle.case_lines.specs.Rests.{HeadingRead, RestPrints, RestLeaves, marks_waiting, work_left};
 
-use crate::carrying::{carry_step, refusal_of};
+use crate::carrying::carry_step;
 use crate::field_lister::FieldLister;
-use crate::line::Line;
+use crate::line::{Line, refusal_of};
 use crate::opening::Opening;
 use jobs::job::Job;
 use lent::cells::Cells;
@@ -31,7 +31,7 @@ fn mark_at(cells: &Cells<'_>, first: usize, after: usize) -> Option<Mark>
 }
 
 impl<'c, 'j, 'k, 'p, 'l> FieldLister<'c, 'j, 'k, 'p, 'l> {
-    // Behind a heading that was read, with its job just opened.
+    /// Behind a heading that was read, with its job just opened.
     pub fn new(
         opening: Opening<'c>,
         job: &'j mut Job<'p>,
@@ -103,7 +103,7 @@ impl<'c, 'j, 'k, 'p, 'l> FieldLister<'c, 'j, 'k, 'p, 'l> {
         None
     }
 
-    // The next line. Behind the last, there is none, and what the job and the cells hold is what the case leaves.
+    /// The next line. Behind the last, there is none, and what the job and the cells hold is what the case leaves.
     pub fn next(&mut self) -> Option<Line>
         ensures prints { MatchOption result (RestPrints self.old []) (λ line. (more : List ℕ) → RestPrints self.new more → RestPrints self.old (line_text line ++ more)) }
         ensures only { (text : List ℕ) → RestPrints self.old text → MatchOption result (text ≡ []) (λ line. (more : List ℕ) × RestPrints self.new more × (text ≡ line_text line ++ more)) }

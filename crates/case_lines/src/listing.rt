@@ -9,9 +9,8 @@ ghost use Rattle.case_lines.specs.Rests.{RestPrints, RestLeaves};
 ghost use Rattle.case_lines.specs.Fronts.{WritesFront, WritesSome};
 
 use crate::buffer::LineBuffer;
-use crate::carrying::refusal_of;
 use crate::field_lister::FieldLister;
-use crate::line::Line;
+use crate::line::{Line, refusal_of};
 use crate::opening::Opening;
 use crate::sink::{put_line, send};
 use jobs::job::Job;

@@ -12,15 +12,15 @@ use cases::fault::CaseRefusal;
 use cases::heading::Heading;
 use cases::reader::CaseReader;
 
-// A heading, and the reader behind it.
+/// A heading, and the reader behind it.
 #[derive(Drop)]
 pub struct Opening<'a> {
-    pub(crate) reader: CaseReader<'a>,
-    pub(crate) heading: Heading,
+    pub reader: CaseReader<'a>,
+    pub heading: Heading,
 }
 
 impl<'a> Opening<'a> {
-    // Reads the heading of a case. Where it is refused, the refusal is the whole listing, whatever is lent.
+    /// Reads the heading of a case. Where it is refused, the refusal is the whole listing, whatever is lent.
     pub fn read(case: &'a [u8]) -> Result<Opening<'a>, CaseRefusal>
         ensures prints { MatchResult result (λ o. HeadingRead case.entry.now o) (λ e. (lent : LentCells) → Listing lent case.entry.now (refusal_line e)) }
         ensures leaves { IfErr result (λ e. (pieces : List (Piece Reading)) (before : Contents) → CaseLeaves case.entry.now pieces pieces before before) }
