@@ -6,6 +6,7 @@ pub mod StretchLists
 pub mod RowMarks
 pub mod Overs
 pub mod Goals
+pub mod Candidates
 pub mod RowSteps
 pub mod Stacks
 pub mod RowLists

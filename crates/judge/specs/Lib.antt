@@ -4,6 +4,7 @@ pub mod Marks
 pub mod Trials
 pub mod Children
 pub mod Signals
+pub mod Candidates
 pub mod Places
 pub mod Cells
 pub mod Judges

@@ -1,5 +1,7 @@
 // Where rows are wanted, as signals: the last row, and a row that is the child of another.
 ghost use Rattle.std.specs.Prelude.{◌<◌, Bool};
+ghost use Rattle.pieces.specs.Ticks.{Steady, Changed};
+ghost use Rattle.pieces.specs.Views.{Agree};
 ghost use Rattle.judge.specs.Children.{Askable, Askable_prop, passed_on, said};
 ghost use Rattle.judge.specs.Markings.{only_at};
 
@@ -28,7 +30,11 @@ impl Signal<bool> for LastRow {
 
     ghost f = { λ s. only_at s.tick };
 
-    fn step(&self, t: u32) -> (bool, Option<u32>) {
+    fn step(&self, t: u32) -> (bool, Option<u32>)
+        ensures steady { Steady (only_at self.now.tick) t result.0 result.1 }
+        ensures agree { Agree (λ (b : Bool). b) (λ (b : Bool). b) }
+        ensures changed { Changed (only_at self.now.tick) result.0 result.1 }
+    {
         if t < self.tick {
             (false, Some(self.tick))
         } else if t == self.tick {

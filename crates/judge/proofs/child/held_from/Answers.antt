@@ -22,7 +22,7 @@ loop-p-preserved g c =
     let w = c.args.window in
     let p = c.loop-p.p in
     let q = c.clipped-q.result in
-    let lt : p < q = subst (λ n. p < n) (sym c.clipped-q.ensures) (clip_later c.step-after.result.1 w.limit p c.step-after.ensures.0 c.loop-p-test.true) in
+    let lt : p < q = subst (λ n. p < n) (sym c.clipped-q.ensures) (clip_later c.step-after.result.1 w.limit p c.step-after.ensures.steady.0 c.loop-p-test.true) in
     walked_more asks dead goal w.from w.to w.limit c.args.t c.args.s c.requires.clear p c.loop-p.c c.loop-p.invariant
     c.max-from.result c.first-z.result c.max-from.ensures c.first-z.ensures (q + w.to) c.first-c.result c.if-z-from.false c.first-c.ensures
     q c.first-p-in-loop-p.result lt refl c.if-c-end.false c.first-p-in-loop-p.ensures
@@ -61,7 +61,7 @@ returns-then-c-end g c =
     held_steady asks dead goal w.from w.to w.limit u r.0 r.1
     (held_ahead asks dead goal w.from w.to w.limit u c.args.s c.requires.clear c.loop-p.p c.loop-p.c c.loop-p.invariant
     c.max-from.result c.first-z.result c.max-from.ensures c.first-z.ensures (q + w.to) c.first-c.result c.if-z-from.false c.first-c.ensures
-    q c.step-after.result.0 c.step-after.result.1 r.0 r.1 w.ok c.if-t-p.false c.loop-p-test.true c.step-after.ensures c.clipped-q.ensures refl c.ahead.ensures)
+    q c.step-after.result.0 c.step-after.result.1 r.0 r.1 w.ok c.if-t-p.false c.loop-p-test.true c.step-after.ensures.steady c.clipped-q.ensures refl c.ahead.ensures)
 
 pub returns : goal.returns
 returns g c =

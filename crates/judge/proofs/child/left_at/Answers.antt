@@ -10,4 +10,4 @@ returns-then-gone g c =
     let w = c.args.window in
     let u = c.args.t in
     let o = c.step-gone.result.1 in
-    held_steady asks dead goal w.from w.to w.limit u false o (held_dead asks dead goal w.from w.to w.limit u c.step-gone.result.0 o c.step-gone.ensures c.if-gone.true)
+    held_steady asks dead goal w.from w.to w.limit u false o (held_dead asks dead goal w.from w.to w.limit u c.step-gone.result.0 o c.step-gone.ensures.steady c.if-gone.true)

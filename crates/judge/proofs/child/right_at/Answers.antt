@@ -11,7 +11,7 @@ returns-then-gone g c =
     let w = c.args.window in
     let u = c.args.t in
     let o = c.step-gone.result.1 in
-    seen_steady asks dead w.from w.to w.limit u false o (seen_dead asks dead w.from w.to w.limit u c.step-gone.result.0 o c.step-gone.ensures c.if-gone.true)
+    seen_steady asks dead w.from w.to w.limit u false o (seen_dead asks dead w.from w.to w.limit u c.step-gone.result.0 o c.step-gone.ensures.steady c.if-gone.true)
 
 pub returns-then-p-window : goal.returns-then-p-window
 returns-then-p-window g c =
@@ -51,11 +51,11 @@ returns g c =
     let p = c.first-p.result in
     let q = c.clipped-q.result in
     let z = c.first-end.result in
-    let gone = c.step-gone.ensures in
+    let gone = c.step-gone.ensures.steady in
     let here : dead u ≡ false = sym (gone.1 u (omega arith) (before_self u c.step-gone.result.1 gone.0)) ∙ c.if-gone.false in
     let back : c.saturating_sub.result ≡ u - w.to = omega arith in
     let top : c.max.result ≡ max w.limit s = omega arith in
     let cl = subst (λ n. Clear dead n u s) back c.clear_from-s.ensures in
     let f = subst (λ n. FirstFrom asks true s n p) top c.first-p.ensures in
     seen_steady asks dead w.from w.to w.limit u true (Some z)
-    (seen_found asks dead w.from w.to w.limit u s cl p f here w.ok c.if-p-window.false c.if-t-p.false q z c.step-after.result.0 c.step-after.result.1 c.step-after.ensures c.clipped-q.ensures c.first-end.ensures)
+    (seen_found asks dead w.from w.to w.limit u s cl p f here w.ok c.if-p-window.false c.if-t-p.false q z c.step-after.result.0 c.step-after.result.1 c.step-after.ensures.steady c.clipped-q.ensures c.first-end.ensures)

@@ -39,7 +39,7 @@ returns-in-Test g c =
     test_row g.G.Grade.kind g.G.Grade.value (g.L.Lines.x c.args.lines.now) c.args.done.begins.now c.args.done.cells.now c.args.row c.args.t
     (worth g.G.Grade.kind g.G.Grade.value c.tested.result) c.read-next.result.1
     c.in-Test.line c.in-Test.side c.in-Test.limit c.read-next.result.0 c.in-Test.is
-    (c.tested.ensures ∙ ap (λ m. range_of g.G.Grade.kind c.in-Test.side m c.read-next.result.0) (to_z-of_z w32 c.in-Test.limit f)) c.read-next.ensures
+    (c.tested.ensures ∙ ap (λ m. range_of g.G.Grade.kind c.in-Test.side m c.read-next.result.0) (to_z-of_z w32 c.in-Test.limit f)) c.read-next.ensures.steady
 
 pub returns-in-Not : goal.returns-in-Not
 returns-in-Not g c =

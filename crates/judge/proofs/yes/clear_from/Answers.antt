@@ -12,7 +12,7 @@ loop-t-preserved g c =
     let i = c.loop-t.invariant in
     let is = c.clipped-t.ensures in
     let P : ℕ → Type 0 = λ n. (n ≤ e) × Clear f c.args.from n c.loop-t.s in
-    subst P (sym is) (clip_most o e, clear_no f c.args.from c.loop-t.t e c.loop-t.s c.step-here.result.0 o i.1 c.step-here.ensures c.loop-t-test.true c.if-here.false)
+    subst P (sym is) (clip_most o e, clear_no f c.args.from c.loop-t.t e c.loop-t.s c.step-here.result.0 o i.1 c.step-here.ensures.steady c.loop-t-test.true c.if-here.false)
 
 pub loop-t-preserved-then-here : goal.loop-t-preserved-then-here
 loop-t-preserved-then-here g c =
@@ -22,7 +22,7 @@ loop-t-preserved-then-here g c =
     let i = c.loop-t.invariant in
     let is = c.clipped-t.ensures in
     let P : ℕ → Type 0 = λ n. (n ≤ e) × Clear f c.args.from n n in
-    subst P (sym is) (clip_most o e, clear_yes f c.args.from c.loop-t.t e c.loop-t.s c.step-here.result.0 o i.1 c.step-here.ensures c.loop-t-test.true c.if-here.true)
+    subst P (sym is) (clip_most o e, clear_yes f c.args.from c.loop-t.t e c.loop-t.s c.step-here.result.0 o i.1 c.step-here.ensures.steady c.loop-t-test.true c.if-here.true)
 
 pub returns : goal.returns
 returns g c =

@@ -8,14 +8,14 @@ use Rattle.judge.proofs.yes.first.Goals as goal
 pub returns-then-here-value : goal.returns-then-here-value
 returns-then-here-value g c =
     let i = c.loop-t.invariant in
-    let st = c.step-here.ensures in
+    let st = c.step-here.ensures.steady in
     let h = same_if c.step-here.result.0 c.args.value c.if-here-value.true in
     record { from = i.0; to = i.1; none = i.2; here = λ _. sym (st.1 c.loop-t.t (omega arith) (before_self c.loop-t.t c.step-here.result.1 st.0)) ∙ h }
 
 pub loop-t-preserved : goal.loop-t-preserved
 loop-t-preserved g c =
     let i = c.loop-t.invariant in
-    let st = c.step-here.ensures in
+    let st = c.step-here.ensures.steady in
     let o = c.step-here.result.1 in
     let e = c.args.end in
     let lt : c.loop-t.t < clip o e = clip_later o e c.loop-t.t st.0 c.loop-t-test.true in
