@@ -1,10 +1,16 @@
 -- Ticks that steps name, from the ticks that look-ups find.
-use Rattle.std.proofs.Common.{◌≡◌, ℕ, ◌+◌, ◌-◌, ◌≤◌, min, Bool, true, false, cond, leb, List, [], ◌∷◌, Some, None, Option, ◌⊎◌, inl, inr, sym, refl, subst, ⊎_elim, arith}
+use Rattle.std.proofs.Common.{◌≡◌, ℕ, ◌+◌, ◌-◌, ◌≤◌, min, Bool, true, false, cond, leb, List, [], ◌∷◌, Some, None, Option, ◌⊎◌, inl, inr, ℤ, sym, refl, ap, ◌∙◌, subst, ⊎_elim, arith}
 use Rattle.std.proofs.lemmas.Bool.{cases_lt}
 use Rattle.pieces.specs.declared.piece.Piece.{Piece}
-use Rattle.pieces.specs.Ticks.{Later, sooner, earlier}
+use Rattle.pieces.specs.Ticks.{Later, Steady, Changed, sooner, earlier}
+use Rattle.pieces.proofs.Steadies.{self_steady, before_self}
 use Rattle.pieces.specs.Pieces.{next_from, Found}
-use Rattle.judge.specs.Candidates.{Starts, NeverOr}
+use Rattle.rules.specs.declared.row.Side.{Side}
+use Rattle.rules.specs.declared.row.Row.{Row}
+use Rattle.rules.specs.declared.row.Row.TheVariants.{Test, Not, And, Or, Eventually, Always, Until}
+use Rattle.meaning.specs.declared.reading.Reading.{Reading}
+use Rattle.meaning.specs.Readings.{Readings}
+use Rattle.judge.specs.Candidates.{Starts, EitherStarts, NeverOr, AtEnds, UntilCandidate, RowCandidate}
 
 pub never_or_more : (P Q : ℕ → Type 0) (o : Option ℕ) → ((n : ℕ) → P n → Q n) → NeverOr P o → NeverOr Q o
 never_or_more P Q None up h = tt
@@ -39,3 +45,44 @@ module _ {V : Type 0} where
   pub found_starts : (ps : List (Piece V)) (t : ℕ) (v : V) (o : Option ℕ) → Found ps t v o → NeverOr (Starts ps) o
   found_starts [] t v o h = absurd h
   found_starts (p ∷ ps) t v o h = subst (NeverOr (Starts (p ∷ ps))) (sym h.1) (never_or_more (Starts ps) (Starts (p ∷ ps)) (next_from ps t) (λ n k. inr k) (next_starts ps t))
+
+  -- the sooner of a start of each
+  pub either_starts : (ps qs : List (Piece V)) (m n o : Option ℕ) → o ≡ sooner m n → NeverOr (Starts ps) m → NeverOr (Starts qs) n → NeverOr (EitherStarts ps qs) o
+  either_starts ps qs m n o e h k = subst (NeverOr (EitherStarts ps qs)) (sym e) (never_or_sooner (Starts ps) (Starts qs) m n h k)
+
+-- the sooner of the two ends of a window
+pub at_ends : (P : ℕ → Type 0) (t a b : ℕ) (leaves next o : Option ℕ) → o ≡ sooner (earlier leaves a) (earlier next b) → Later (t + a) leaves → Later (t + b) next → NeverOr P leaves → NeverOr P next → NeverOr (AtEnds P a b) o
+at_ends P t a b leaves next o e la lb pa pb =
+    subst (NeverOr (AtEnds P a b)) (sym e)
+    (never_or_sooner (λ n. P (n + a)) (λ n. P (n + b)) (earlier leaves a) (earlier next b) (never_or_earlier P t a leaves la pa) (never_or_earlier P t b next lb pb))
+
+module _ {V : Type 0} (x : Readings) (lists : ℕ → List (Piece V)) (row : Row) (t : ℕ) (o : Option ℕ) where
+  abbrev Names : Row → Type 0
+  Names r = RowCandidate x lists r t o
+
+  pub test_named : (l : ℕ) (s : Side) (m : ℤ) (q : Reading) → row ≡ Test l s m → Steady (x l) t q o → Changed (x l) q o → Names row
+  test_named l s m q e st ch = subst Names (sym e) (self_steady (x l) t q o st, subst (λ z. Changed (x l) z o) (st.1 t (omega arith) (before_self t o st.0)) ch)
+
+  one_list : (F : List (Piece V) → Type 0) (r : Row) (c : ℕ) (ps : List (Piece V)) → row ≡ r → ps ≡ lists c → (F (lists c) → Names r) → F ps → Names row
+  one_list F r c ps e p up h = subst Names (sym e) (up (subst F p h))
+
+  two_lists : (F : List (Piece V) → List (Piece V) → Type 0) (q : Row) (l r : ℕ) (ps qs : List (Piece V)) → row ≡ q → ps ≡ lists l → qs ≡ lists r → (F (lists l) (lists r) → Names q) → F ps qs → Names row
+  two_lists F q l r ps qs e pl pr up h = subst Names (sym e) (up (subst (F (lists l)) pr (subst (λ ps. F ps qs) pl h)))
+
+  pub not_named : (c : ℕ) (ps : List (Piece V)) → row ≡ Not c → ps ≡ lists c → NeverOr (Starts ps) o → Names row
+  not_named c ps e p h = one_list (λ ps. NeverOr (Starts ps) o) (Not c) c ps e p (λ k. k) h
+
+  pub and_named : (l r : ℕ) (ps qs : List (Piece V)) → row ≡ And l r → ps ≡ lists l → qs ≡ lists r → NeverOr (EitherStarts ps qs) o → Names row
+  and_named l r ps qs e p q h = two_lists (λ ps qs. NeverOr (EitherStarts ps qs) o) (And l r) l r ps qs e p q (λ k. k) h
+
+  pub or_named : (l r : ℕ) (ps qs : List (Piece V)) → row ≡ Or l r → ps ≡ lists l → qs ≡ lists r → NeverOr (EitherStarts ps qs) o → Names row
+  or_named l r ps qs e p q h = two_lists (λ ps qs. NeverOr (EitherStarts ps qs) o) (Or l r) l r ps qs e p q (λ k. k) h
+
+  pub eventually_named : (a b c : ℕ) (ps : List (Piece V)) → row ≡ Eventually a b c → ps ≡ lists c → NeverOr (AtEnds (Starts ps) a b) o → Names row
+  eventually_named a b c ps e p h = one_list (λ ps. NeverOr (AtEnds (Starts ps) a b) o) (Eventually a b c) c ps e p (λ k. k) h
+
+  pub always_named : (a b c : ℕ) (ps : List (Piece V)) → row ≡ Always a b c → ps ≡ lists c → NeverOr (AtEnds (Starts ps) a b) o → Names row
+  always_named a b c ps e p h = one_list (λ ps. NeverOr (AtEnds (Starts ps) a b) o) (Always a b c) c ps e p (λ k. k) h
+
+  pub until_named : (a b l r : ℕ) (ps qs : List (Piece V)) → row ≡ Until a b l r → ps ≡ lists l → qs ≡ lists r → NeverOr (UntilCandidate ps qs a b) o → Names row
+  until_named a b l r ps qs e p q h = two_lists (λ ps qs. NeverOr (UntilCandidate ps qs a b) o) (Until a b l r) l r ps qs e p q (λ k. k) h
