@@ -1,5 +1,5 @@
 -- Ticks that steps name, from the ticks that look-ups find.
-use Rattle.std.proofs.Common.{◌≡◌, ℕ, ◌+◌, ◌-◌, ◌≤◌, min, Bool, true, false, cond, leb, List, [], ◌∷◌, Some, None, Option, ◌⊎◌, inl, inr, ℤ, sym, refl, ap, ◌∙◌, subst, ⊎_elim, arith}
+use Rattle.std.proofs.Common.{◌≡◌, ℕ, ◌+◌, ◌-◌, min, Bool, true, false, cond, leb, List, [], ◌∷◌, Some, None, Option, ◌⊎◌, inl, inr, ℤ, sym, refl, subst, ⊎_elim, arith}
 use Rattle.std.proofs.lemmas.Bool.{cases_lt}
 use Rattle.pieces.specs.declared.piece.Piece.{Piece}
 use Rattle.pieces.specs.Ticks.{Later, Steady, Changed, sooner, earlier}

@@ -7,6 +7,7 @@ pub mod RowMarks
 pub mod Overs
 pub mod Goals
 pub mod Candidates
+pub mod WantCandidates
 pub mod RowSteps
 pub mod Stacks
 pub mod RowLists

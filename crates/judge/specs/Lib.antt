@@ -5,6 +5,7 @@ pub mod Trials
 pub mod Children
 pub mod Signals
 pub mod Candidates
+pub mod WantCandidates
 pub mod Places
 pub mod Cells
 pub mod Judges

@@ -17,8 +17,8 @@ loop-next-init g c =
     let ps = c.args.left.now.pieces.now in
     let qs = c.args.right.now.pieces.now in (
       walking_first K (heard K g.G.Grade.value c.args.left.now.pieces.now) (heard K g.G.Grade.value c.args.right.now.pieces.now) c.args.t g.met.G.Grade.lawful c.args.first c.args.end
-    (W c.gather-more.result.0) (W c.look_near-after.result.0) (W c.lower-all.result) c.gather-more.result.1 c.look_near-after.result.1 c.first_of-leaves.result
-    c.requires.start c.gather-more.ensures.all c.gather-more.ensures.next c.look_near-after.ensures.steady c.first_of-leaves.ensures c.requires.window c.lower-all.ensures,
+          (W c.gather-more.result.0) (W c.look_near-after.result.0) (W c.lower-all.result) c.gather-more.result.1 c.look_near-after.result.1 c.first_of-leaves.result
+          c.requires.start c.gather-more.ensures.all c.gather-more.ensures.next c.look_near-after.ensures.steady c.first_of-leaves.ensures c.requires.window c.lower-all.ensures,
       either_starts ps qs c.gather-more.result.1 c.look_near-after.result.1 c.first_of-leaves.result c.first_of-leaves.ensures c.gather-more.ensures.named c.look_near-after.ensures.named,
     )
 
@@ -29,9 +29,9 @@ loop-next-preserved g c =
     let ps = c.args.left.now.pieces.now in
     let qs = c.args.right.now.pieces.now in (
       walking_more K (heard K g.G.Grade.value c.args.left.now.pieces.now) (heard K g.G.Grade.value c.args.right.now.pieces.now) c.args.t g.met.G.Grade.lawful c.args.first c.args.end
-    c.loop-next.next (W c.loop-next.all) (W c.loop-next.low) c.requires.start c.loop-next.invariant.0
-    c.in-Some.u (W c.look_near-m.result.0) (W c.look_near-n.result.0) (W c.lower-low.result) (W c.lower-both.result) (W c.upper-all.result) c.look_near-m.result.1 c.look_near-n.result.1 c.first_of-next.result
-    c.in-Some.is c.if-u-end.false c.look_near-m.ensures.steady c.look_near-n.ensures.steady c.first_of-next.ensures c.lower-low.ensures c.lower-both.ensures c.upper-all.ensures,
+          c.loop-next.next (W c.loop-next.all) (W c.loop-next.low) c.requires.start c.loop-next.invariant.0
+          c.in-Some.u (W c.look_near-m.result.0) (W c.look_near-n.result.0) (W c.lower-low.result) (W c.lower-both.result) (W c.upper-all.result) c.look_near-m.result.1 c.look_near-n.result.1 c.first_of-next.result
+          c.in-Some.is c.if-u-end.false c.look_near-m.ensures.steady c.look_near-n.ensures.steady c.first_of-next.ensures c.lower-low.ensures c.lower-both.ensures c.upper-all.ensures,
       either_starts ps qs c.look_near-m.result.1 c.look_near-n.result.1 c.first_of-next.result c.first_of-next.ensures c.look_near-m.ensures.named c.look_near-n.ensures.named,
     )
 

@@ -21,9 +21,9 @@ returns g c =
     let w = c.gather_until-all.ensures in
     record {
       steady = until_steady K (heard K g.G.Grade.value c.args.left.now.pieces.now) (heard K g.G.Grade.value c.args.right.now.pieces.now) c.args.t g.met.G.Grade.lawful a b
-    (W c.gather_until-all.result.0) (W c.look-changes.result.0) c.look-changes.result.1 leaves next c.first_of.result c.first_of-2.result
-    c.requires c.gather_until-all.ensures.all c.look-changes.ensures.steady c.gather_until-all.ensures.leaves c.gather_until-all.ensures.next
-    is c.first_of-2.ensures;
+          (W c.gather_until-all.result.0) (W c.look-changes.result.0) c.look-changes.result.1 leaves next c.first_of.result c.first_of-2.result
+          c.requires c.gather_until-all.ensures.all c.look-changes.ensures.steady c.gather_until-all.ensures.leaves c.gather_until-all.ensures.next
+          is c.first_of-2.ensures;
       named = subst (NeverOr (UntilCandidate ps c.args.right.now.pieces.now a b)) (sym c.first_of-2.ensures)
           (never_or_sooner (Starts ps) (AtEnds E a b) c.look-changes.result.1 c.first_of.result c.look-changes.ensures.named
           (at_ends E c.args.t a b leaves next c.first_of.result is w.leaves.0 w.next.0 w.leaves_named w.next_named));
