@@ -57,32 +57,32 @@ at_ends P t a b leaves next o e la lb pa pb =
     (never_or_sooner (λ n. P (n + a)) (λ n. P (n + b)) (earlier leaves a) (earlier next b) (never_or_earlier P t a leaves la pa) (never_or_earlier P t b next lb pb))
 
 module _ {V : Type 0} (x : Readings) (lists : ℕ → List (Piece V)) (row : Row) (t : ℕ) (o : Option ℕ) where
-  abbrev Names : Row → Type 0
-  Names r = RowCandidate x lists r t o
+  abbrev RowNames : Row → Type 0
+  RowNames r = RowCandidate x lists r t o
 
-  pub test_named : (l : ℕ) (s : Side) (m : ℤ) (q : Reading) → row ≡ Test l s m → Steady (x l) t q o → Changed (x l) q o → Names row
-  test_named l s m q e st ch = subst Names (sym e) (self_steady (x l) t q o st, subst (λ z. Changed (x l) z o) (st.1 t (omega arith) (before_self t o st.0)) ch)
+  pub test_named : (l : ℕ) (s : Side) (m : ℤ) (q : Reading) → row ≡ Test l s m → Steady (x l) t q o → Changed (x l) q o → RowNames row
+  test_named l s m q e st ch = subst RowNames (sym e) (self_steady (x l) t q o st, subst (λ z. Changed (x l) z o) (st.1 t (omega arith) (before_self t o st.0)) ch)
 
-  one_list : (F : List (Piece V) → Type 0) (r : Row) (c : ℕ) (ps : List (Piece V)) → row ≡ r → ps ≡ lists c → (F (lists c) → Names r) → F ps → Names row
-  one_list F r c ps e p up h = subst Names (sym e) (up (subst F p h))
+  of_one : (F : List (Piece V) → Type 0) (r : Row) (c : ℕ) (ps : List (Piece V)) → row ≡ r → ps ≡ lists c → (F (lists c) → RowNames r) → F ps → RowNames row
+  of_one F r c ps e p up h = subst RowNames (sym e) (up (subst F p h))
 
-  two_lists : (F : List (Piece V) → List (Piece V) → Type 0) (q : Row) (l r : ℕ) (ps qs : List (Piece V)) → row ≡ q → ps ≡ lists l → qs ≡ lists r → (F (lists l) (lists r) → Names q) → F ps qs → Names row
-  two_lists F q l r ps qs e pl pr up h = subst Names (sym e) (up (subst (F (lists l)) pr (subst (λ ps. F ps qs) pl h)))
+  of_two : (F : List (Piece V) → List (Piece V) → Type 0) (q : Row) (l r : ℕ) (ps qs : List (Piece V)) → row ≡ q → ps ≡ lists l → qs ≡ lists r → (F (lists l) (lists r) → RowNames q) → F ps qs → RowNames row
+  of_two F q l r ps qs e pl pr up h = subst RowNames (sym e) (up (subst (F (lists l)) pr (subst (λ ps. F ps qs) pl h)))
 
-  pub not_named : (c : ℕ) (ps : List (Piece V)) → row ≡ Not c → ps ≡ lists c → NeverOr (Starts ps) o → Names row
-  not_named c ps e p h = one_list (λ ps. NeverOr (Starts ps) o) (Not c) c ps e p (λ k. k) h
+  pub not_named : (c : ℕ) (ps : List (Piece V)) → row ≡ Not c → ps ≡ lists c → NeverOr (Starts ps) o → RowNames row
+  not_named c ps e p h = of_one (λ ps. NeverOr (Starts ps) o) (Not c) c ps e p (λ k. k) h
 
-  pub and_named : (l r : ℕ) (ps qs : List (Piece V)) → row ≡ And l r → ps ≡ lists l → qs ≡ lists r → NeverOr (EitherStarts ps qs) o → Names row
-  and_named l r ps qs e p q h = two_lists (λ ps qs. NeverOr (EitherStarts ps qs) o) (And l r) l r ps qs e p q (λ k. k) h
+  pub and_named : (l r : ℕ) (ps qs : List (Piece V)) → row ≡ And l r → ps ≡ lists l → qs ≡ lists r → NeverOr (EitherStarts ps qs) o → RowNames row
+  and_named l r ps qs e p q h = of_two (λ ps qs. NeverOr (EitherStarts ps qs) o) (And l r) l r ps qs e p q (λ k. k) h
 
-  pub or_named : (l r : ℕ) (ps qs : List (Piece V)) → row ≡ Or l r → ps ≡ lists l → qs ≡ lists r → NeverOr (EitherStarts ps qs) o → Names row
-  or_named l r ps qs e p q h = two_lists (λ ps qs. NeverOr (EitherStarts ps qs) o) (Or l r) l r ps qs e p q (λ k. k) h
+  pub or_named : (l r : ℕ) (ps qs : List (Piece V)) → row ≡ Or l r → ps ≡ lists l → qs ≡ lists r → NeverOr (EitherStarts ps qs) o → RowNames row
+  or_named l r ps qs e p q h = of_two (λ ps qs. NeverOr (EitherStarts ps qs) o) (Or l r) l r ps qs e p q (λ k. k) h
 
-  pub eventually_named : (a b c : ℕ) (ps : List (Piece V)) → row ≡ Eventually a b c → ps ≡ lists c → NeverOr (AtEnds (Starts ps) a b) o → Names row
-  eventually_named a b c ps e p h = one_list (λ ps. NeverOr (AtEnds (Starts ps) a b) o) (Eventually a b c) c ps e p (λ k. k) h
+  pub eventually_named : (a b c : ℕ) (ps : List (Piece V)) → row ≡ Eventually a b c → ps ≡ lists c → NeverOr (AtEnds (Starts ps) a b) o → RowNames row
+  eventually_named a b c ps e p h = of_one (λ ps. NeverOr (AtEnds (Starts ps) a b) o) (Eventually a b c) c ps e p (λ k. k) h
 
-  pub always_named : (a b c : ℕ) (ps : List (Piece V)) → row ≡ Always a b c → ps ≡ lists c → NeverOr (AtEnds (Starts ps) a b) o → Names row
-  always_named a b c ps e p h = one_list (λ ps. NeverOr (AtEnds (Starts ps) a b) o) (Always a b c) c ps e p (λ k. k) h
+  pub always_named : (a b c : ℕ) (ps : List (Piece V)) → row ≡ Always a b c → ps ≡ lists c → NeverOr (AtEnds (Starts ps) a b) o → RowNames row
+  always_named a b c ps e p h = of_one (λ ps. NeverOr (AtEnds (Starts ps) a b) o) (Always a b c) c ps e p (λ k. k) h
 
-  pub until_named : (a b l r : ℕ) (ps qs : List (Piece V)) → row ≡ Until a b l r → ps ≡ lists l → qs ≡ lists r → NeverOr (UntilCandidate ps qs a b) o → Names row
-  until_named a b l r ps qs e p q h = two_lists (λ ps qs. NeverOr (UntilCandidate ps qs a b) o) (Until a b l r) l r ps qs e p q (λ k. k) h
+  pub until_named : (a b l r : ℕ) (ps qs : List (Piece V)) → row ≡ Until a b l r → ps ≡ lists l → qs ≡ lists r → NeverOr (UntilCandidate ps qs a b) o → RowNames row
+  until_named a b l r ps qs e p q h = of_two (λ ps qs. NeverOr (UntilCandidate ps qs a b) o) (Until a b l r) l r ps qs e p q (λ k. k) h

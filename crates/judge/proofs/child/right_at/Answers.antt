@@ -4,7 +4,7 @@ use Rattle.pieces.proofs.Steadies.{before_self}
 use Rattle.judge.proofs.Walks.{seen_steady, seen_dead, seen_never, seen_later, seen_found}
 use Rattle.judge.specs.WantCandidates.{FromOr, RightCandidate}
 use Rattle.judge.proofs.Candidates.{never_or_more}
-use Rattle.judge.proofs.WantCandidates.{opens, right_ends}
+use Rattle.judge.proofs.WantCandidates.{opens_at, right_ends}
 use Rattle.judge.proofs.child.right_at.Goals as goal
 
 pub returns-then-gone : goal.returns-then-gone
@@ -57,7 +57,7 @@ returns-then-t-p g c =
     let sd = subst (λ n. FromOr D n s) back (c.clear_from-s.ensures.stop here) in
     record {
       steady = seen_steady asks dead w.from w.to w.limit u false (Some (p + w.from)) (seen_later asks dead w.from w.to w.limit u s cl p f c.if-t-p.true);
-      named = inr (inl (opens A D dead w.from w.to w.limit u s w.ok sd p (c.first-p.ensures.stop (omega arith)) c.if-t-p.true));
+      named = inr (inl (opens_at A D dead w.from w.to w.limit u s w.ok sd p (c.first-p.ensures.stop (omega arith)) c.if-t-p.true));
     }
 
 pub returns : goal.returns
