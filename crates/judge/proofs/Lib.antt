@@ -6,6 +6,8 @@ pub mod StretchLists
 pub mod RowMarks
 pub mod Overs
 pub mod Goals
+pub mod Candidates
+pub mod WantCandidates
 pub mod RowSteps
 pub mod Stacks
 pub mod RowLists

@@ -4,6 +4,8 @@ pub mod Marks
 pub mod Trials
 pub mod Children
 pub mod Signals
+pub mod Candidates
+pub mod WantCandidates
 pub mod Places
 pub mod Cells
 pub mod Judges

@@ -5,6 +5,8 @@
 // Signals and window are parameters: a struct of them would be written out at each of its calls.
 ghost use Rattle.std.specs.Prelude.{◌≡◌, ◌-◌, ◌<◌, ◌≤◌, true, false, ◌||◌};
 ghost use Rattle.pieces.specs.Ticks.{Steady};
+ghost use Rattle.judge.specs.Candidates.{NeverOr};
+ghost use Rattle.judge.specs.WantCandidates.{FromOr, RightCandidate, LeftCandidate, AheadCandidate};
 ghost use Rattle.judge.specs.Yes.{any, Clear};
 ghost use Rattle.judge.specs.Reaches.{sees as sight, held_over as long_sight, Ahead};
 
@@ -21,7 +23,8 @@ pub(crate) fn right_at<A: YesNo, B: YesNo>(
     window: Window,
     t: u32,
 ) -> (bool, Option<u32>)
-    ensures { Steady (λ u. any (λ s. sight (A.YesNo.f asks.now) (B.YesNo.f dead.now) window.from window.to s u) window.limit) t result.0 result.1 }
+    ensures steady { Steady (λ u. any (λ s. sight (A.YesNo.f asks.now) (B.YesNo.f dead.now) window.from window.to s u) window.limit) t result.0 result.1 }
+    ensures named { NeverOr (RightCandidate (A.YesNo.may_change asks.now) (B.YesNo.may_change dead.now) window.from window.to window.limit) result.1 }
 {
     let (gone, next) = dead.step(t);
     if gone {
@@ -54,7 +57,8 @@ fn ahead<B: YesNo, C: YesNo>(
     requires from { t ≤ w }
     requires before { w < end }
     requires here { (B.YesNo.f dead.now w || C.YesNo.f need.now w) ≡ true }
-    ensures { Ahead (B.YesNo.f dead.now) (C.YesNo.f need.now) to end w t result.0 result.1 }
+    ensures ahead { Ahead (B.YesNo.f dead.now) (C.YesNo.f need.now) to end w t result.0 result.1 }
+    ensures named { NeverOr (AheadCandidate (B.YesNo.f dead.now) (B.YesNo.may_change dead.now) (C.YesNo.may_change need.now) to end w) result.1 }
 {
     let (gone, dies) = dead.step(w);
     if gone {
@@ -80,7 +84,9 @@ fn held_from<A: YesNo, B: YesNo, C: YesNo>(
 ) -> (bool, Option<u32>)
     requires alive { B.YesNo.f dead.now t ≡ false }
     requires clear { Clear (B.YesNo.f dead.now) (t - window.to) t s }
-    ensures { Steady (λ u. any (λ s. long_sight (A.YesNo.f asks.now) (B.YesNo.f dead.now) (C.YesNo.f need.now) window.from window.to s u) window.limit) t result.0 result.1 }
+    requires stop { FromOr (B.YesNo.may_change dead.now) (t - window.to) s }
+    ensures steady { Steady (λ u. any (λ s. long_sight (A.YesNo.f asks.now) (B.YesNo.f dead.now) (C.YesNo.f need.now) window.from window.to s u) window.limit) t result.0 result.1 }
+    ensures named { NeverOr (LeftCandidate (A.YesNo.may_change asks.now) (B.YesNo.may_change dead.now) window.from window.to window.limit (C.YesNo.may_change need.now)) result.1 }
 {
     let limit = window.limit;
     let either = Or {
@@ -119,7 +125,8 @@ pub(crate) fn left_at<A: YesNo, B: YesNo, C: YesNo>(
     window: Window,
     t: u32,
 ) -> (bool, Option<u32>)
-    ensures { Steady (λ u. any (λ s. long_sight (A.YesNo.f asks.now) (B.YesNo.f dead.now) (C.YesNo.f need.now) window.from window.to s u) window.limit) t result.0 result.1 }
+    ensures steady { Steady (λ u. any (λ s. long_sight (A.YesNo.f asks.now) (B.YesNo.f dead.now) (C.YesNo.f need.now) window.from window.to s u) window.limit) t result.0 result.1 }
+    ensures named { NeverOr (LeftCandidate (A.YesNo.may_change asks.now) (B.YesNo.may_change dead.now) window.from window.to window.limit (C.YesNo.may_change need.now)) result.1 }
 {
     let (gone, next) = dead.step(t);
     if gone {

@@ -1,5 +1,5 @@
 // Where the readings come from.
-ghost use Rattle.pieces.specs.Ticks.{Steady};
+ghost use Rattle.pieces.specs.Ticks.{Steady, Changed};
 ghost use Rattle.meaning.specs.Readings.{Readings};
 
 use meaning::reading::Reading;
@@ -8,7 +8,8 @@ use meaning::reading::Reading;
 pub(crate) trait Lines {
     ghost x: { Self → Readings };
 
-    // The line's reading at t, and a tick up to which it stays the same, or none if it stays for ever.
+    // The line's reading at t, and the tick where that next changes, or none if it stays for ever.
     fn read(&self, line: u8, t: u32) -> (Reading, Option<u32>)
-        ensures { Steady (x self.now line) t result.0 result.1 };
+        ensures steady { Steady (x self.now line) t result.0 result.1 }
+        ensures changed { Changed (x self.now line) result.0 result.1 };
 }

@@ -1,6 +1,7 @@
 // Look-ups in lists of ranges.
 ghost use Rattle.grades.specs.Worth.{worth};
 ghost use Rattle.pieces.specs.Ticks.{Steady};
+ghost use Rattle.judge.specs.Candidates.{Starts, NeverOr};
 ghost use Rattle.judge.specs.Signals.{heard};
 
 use grades::grade::Grade;
@@ -9,7 +10,8 @@ use pieces::list::PieceList;
 
 // The range at t, and the next start above t: a step of the function of ticks that the list stands for. A window may end behind the last u32.
 pub(crate) fn look<G: Grade>(list: &PieceList<'_, Range<G>>, t: u64) -> (Range<G>, Option<u32>)
-    ensures { Steady (heard G.kind G.value list.now.pieces.now) t (worth G.kind G.value result.0) result.1 }
+    ensures steady { Steady (heard G.kind G.value list.now.pieces.now) t (worth G.kind G.value result.0) result.1 }
+    ensures named { NeverOr (Starts list.now.pieces.now) result.1 }
 {
     list.lookup(t)
 }
@@ -20,7 +22,8 @@ pub(crate) fn look_near<G: Grade>(
     t: u64,
     near: usize,
 ) -> (Range<G>, Option<u32>, usize)
-    ensures { Steady (heard G.kind G.value list.now.pieces.now) t (worth G.kind G.value result.0) result.1 }
+    ensures steady { Steady (heard G.kind G.value list.now.pieces.now) t (worth G.kind G.value result.0) result.1 }
+    ensures named { NeverOr (Starts list.now.pieces.now) result.1 }
 {
     list.lookup_near(t, near)
 }

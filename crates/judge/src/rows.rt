@@ -6,7 +6,9 @@ ghost use Rattle.pieces.specs.Ticks.{Steady};
 ghost use Rattle.pieces.specs.Cells.{Written};
 ghost use Rattle.meaning.specs.Values.{step as row_value};
 ghost use Rattle.meaning.specs.Verdicts.{ranges};
-ghost use Rattle.judge.specs.Places.{list_says, RowReady, RowReady_prop};
+ghost use Rattle.pieces.specs.Views.{Agree};
+ghost use Rattle.judge.specs.Candidates.{RowCandidate};
+ghost use Rattle.judge.specs.Places.{list_at, list_says, RowReady, RowReady_prop};
 
 use crate::limits::tested;
 use crate::lines::Lines;
@@ -28,7 +30,8 @@ fn row_step<G: Grade, L: Lines>(
     t: u32,
 ) -> (Range<G>, Option<u32>)
     requires { RowReady row done.begins.now done.cells.now }
-    ensures { Steady (row_value (ranges G.Grade.kind) (L.Lines.x lines.now) (list_says G.Grade.kind G.Grade.value done.entry.begins.now done.entry.cells.now) row) t (worth G.Grade.kind G.Grade.value result.0) result.1 }
+    ensures steady { Steady (row_value (ranges G.Grade.kind) (L.Lines.x lines.now) (list_says G.Grade.kind G.Grade.value done.entry.begins.now done.entry.cells.now) row) t (worth G.Grade.kind G.Grade.value result.0) result.1 }
+    ensures named { RowCandidate (L.Lines.x lines.now) (λ c. list_at done.entry.begins.now done.entry.cells.now c) row t result.1 }
 {
     match row {
         Row::Test { line, side, limit } => {
@@ -83,7 +86,11 @@ impl<'a, 'b, 'c, G: Grade, L: Lines> Signal<Range<G>> for RowSignal<'a, 'b, 'c, 
 
     ghost f = { λ s. row_value (ranges G.Grade.kind) (L.Lines.x s.lines.now) (list_says G.Grade.kind G.Grade.value s.done.begins.now s.done.cells.now) s.row };
 
-    fn step(&self, t: u32) -> (Range<G>, Option<u32>) {
+    fn step(&self, t: u32) -> (Range<G>, Option<u32>)
+        ensures steady { Steady (row_value (ranges G.Grade.kind) (L.Lines.x self.now.lines.now) (list_says G.Grade.kind G.Grade.value self.now.done.begins.now self.now.done.cells.now) self.now.row) t (worth G.Grade.kind G.Grade.value result.0) result.1 }
+        ensures agree { Agree (worth G.Grade.kind G.Grade.value) (worth G.Grade.kind G.Grade.value) }
+        ensures named { RowCandidate (L.Lines.x self.now.lines.now) (λ c. list_at self.now.done.begins.now self.now.done.cells.now c) self.now.row t result.1 }
+    {
         row_step(self.row, self.done, self.lines, t)
     }
 }

@@ -4,6 +4,7 @@ ghost use Rattle.grades.specs.Ranges.{spans};
 ghost use Rattle.grades.specs.Worth.{worth};
 ghost use Rattle.pieces.specs.Ticks.{Steady};
 ghost use Rattle.meaning.specs.Values.{over};
+ghost use Rattle.judge.specs.Candidates.{Starts, EitherStarts, AtEnds, NeverOr};
 ghost use Rattle.judge.specs.Signals.{heard, op, Stays};
 
 use crate::look::{look, look_near};
@@ -31,7 +32,8 @@ fn combine<G: Grade>(way: Way, one: Range<G>, other: Range<G>) -> Range<G>
 
 // The child's opposite, as long as the child stays.
 pub(crate) fn not_step<G: Grade>(child: &PieceList<'_, Range<G>>, t: u32) -> (Range<G>, Option<u32>)
-    ensures { Steady (λ u. (spans G.kind).opposite (heard G.kind G.value child.now.pieces.now u)) t (worth G.kind G.value result.0) result.1 }
+    ensures steady { Steady (λ u. (spans G.kind).opposite (heard G.kind G.value child.now.pieces.now u)) t (worth G.kind G.value result.0) result.1 }
+    ensures named { NeverOr (Starts child.now.pieces.now) result.1 }
 {
     let (range, next) = look(child, t as u64);
     (range.opposite(), next)
@@ -44,7 +46,8 @@ pub(crate) fn pair_step<G: Grade>(
     right: &PieceList<'_, Range<G>>,
     t: u32,
 ) -> (Range<G>, Option<u32>)
-    ensures { Steady (λ u. op G.kind way (heard G.kind G.value left.now.pieces.now u) (heard G.kind G.value right.now.pieces.now u)) t (worth G.kind G.value result.0) result.1 }
+    ensures steady { Steady (λ u. op G.kind way (heard G.kind G.value left.now.pieces.now u) (heard G.kind G.value right.now.pieces.now u)) t (worth G.kind G.value result.0) result.1 }
+    ensures named { NeverOr (EitherStarts left.now.pieces.now right.now.pieces.now) result.1 }
 {
     let (one, m) = look(left, t as u64);
     let (other, n) = look(right, t as u64);
@@ -61,6 +64,7 @@ pub(crate) fn gather<G: Grade>(
     requires { first ≤ end }
     ensures all { worth G.kind G.value result.0 ≡ over (op G.kind way) (heard G.kind G.value child.now.pieces.now) first (end - first) }
     ensures next { Stays (heard G.kind G.value child.now.pieces.now) end result.1 }
+    ensures named { NeverOr (Starts child.now.pieces.now) result.1 }
 {
     let (range, after, mut near) = look_near(child, first, 0);
     let mut all = range;
@@ -86,7 +90,8 @@ pub(crate) fn window_step<G: Grade>(
     t: u32,
 ) -> (Range<G>, Option<u32>)
     requires { from ≤ to }
-    ensures { Steady (λ u. over (op G.kind way) (heard G.kind G.value child.now.pieces.now) (u + from) (to - from)) t (worth G.kind G.value result.0) result.1 }
+    ensures steady { Steady (λ u. over (op G.kind way) (heard G.kind G.value child.now.pieces.now) (u + from) (to - from)) t (worth G.kind G.value result.0) result.1 }
+    ensures named { NeverOr (AtEnds (Starts child.now.pieces.now) from to) result.1 }
 {
     let first = t as u64 + from as u64;
     let end = t as u64 + to as u64;

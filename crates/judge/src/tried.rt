@@ -2,6 +2,7 @@
 ghost use Rattle.std.specs.Prelude.{◌≡◌, false};
 ghost use Rattle.grades.specs.Worth.{worth};
 ghost use Rattle.pieces.specs.Pieces.{at_list};
+ghost use Rattle.judge.specs.Candidates.{Starts, EitherStarts};
 ghost use Rattle.judge.specs.Trials.{tried, range_says, asked};
 ghost use Rattle.judge.specs.declared.trial.Trial.TheVariants.{Loose};
 
@@ -32,6 +33,8 @@ pub(crate) struct Tried<'a, G> {
 impl<'a, G: Grade> YesNo for Tried<'a, G> {
     ghost f = { λ s. range_says G.Grade.kind G.Grade.value s.by s.of.pieces.now s.of.ok };
 
+    ghost may_change = { λ s. Starts s.of.pieces.now };
+
     fn step(&self, t: u32) -> (bool, Option<u32>) {
         let (range, next) = self.of.lookup(t as u64);
         (try_range(self.by, range), next)
@@ -48,6 +51,8 @@ pub(crate) struct Asking<'a, 'b, G> {
 impl<'a, 'b, G: Grade> YesNo for Asking<'a, 'b, G> {
     ghost f = { λ s. asked (at_list s.want.pieces.now s.want.ok) (range_says G.Grade.kind G.Grade.value Loose s.range.pieces.now s.range.ok) };
 
+    ghost may_change = { λ s. EitherStarts s.want.pieces.now s.range.pieces.now };
+
     fn step(&self, t: u32) -> (bool, Option<u32>) {
         let (wanted, until) = self.want.lookup(t as u64);
         let (range, next) = self.range.lookup(t as u64);
@@ -62,6 +67,8 @@ pub(crate) struct Never;
 
 impl YesNo for Never {
     ghost f = { λ _ _. false };
+
+    ghost may_change = { λ _ _. ⊥ };
 
     fn step(&self, _t: u32) -> (bool, Option<u32>) {
         (false, None)

@@ -4,6 +4,7 @@ ghost use Rattle.grades.specs.Ranges.{spans};
 ghost use Rattle.grades.specs.Worth.{worth};
 ghost use Rattle.pieces.specs.Ticks.{Steady};
 ghost use Rattle.meaning.specs.Values.{over};
+ghost use Rattle.judge.specs.Candidates.{EitherStarts, UntilCandidate, NeverOr};
 ghost use Rattle.judge.specs.Signals.{goal, Stays};
 
 use crate::look::{look, look_near};
@@ -28,6 +29,8 @@ fn gather_until<G: Grade>(
     ensures all { worth G.kind G.value result.0 ≡ over (spans G.kind).join (goal G.kind G.value left.now.pieces.now right.now.pieces.now t) first (end - first) }
     ensures leaves { Stays (goal G.kind G.value left.now.pieces.now right.now.pieces.now t) first result.1 }
     ensures next { Stays (goal G.kind G.value left.now.pieces.now right.now.pieces.now t) end result.2 }
+    ensures leaves_named { NeverOr (EitherStarts left.now.pieces.now right.now.pieces.now) result.1 }
+    ensures next_named { NeverOr (EitherStarts left.now.pieces.now right.now.pieces.now) result.2 }
 {
     let (run, more) = gather(Way::Lower, left, t, first);
     let (aim, after, mut near_right) = look_near(right, first, 0);
@@ -61,7 +64,8 @@ pub(crate) fn until_step<G: Grade>(
     t: u32,
 ) -> (Range<G>, Option<u32>)
     requires { from ≤ to }
-    ensures { Steady (λ u. over (spans G.kind).join (goal G.kind G.value left.now.pieces.now right.now.pieces.now u) (u + from) (to - from)) t (worth G.kind G.value result.0) result.1 }
+    ensures steady { Steady (λ u. over (spans G.kind).join (goal G.kind G.value left.now.pieces.now right.now.pieces.now u) (u + from) (to - from)) t (worth G.kind G.value result.0) result.1 }
+    ensures named { NeverOr (UntilCandidate left.now.pieces.now right.now.pieces.now from to) result.1 }
 {
     let start = t as u64;
     let (_, changes) = look(left, start);

@@ -1,5 +1,10 @@
 // Where rows are wanted, as signals: the last row, and a row that is the child of another.
 ghost use Rattle.std.specs.Prelude.{◌<◌, Bool};
+ghost use Rattle.pieces.specs.Ticks.{Steady, Changed};
+ghost use Rattle.pieces.specs.Views.{Agree};
+ghost use Rattle.judge.specs.Candidates.{EitherStarts};
+ghost use Rattle.judge.specs.WantCandidates.{ChildCandidate};
+ghost use Rattle.judge.specs.Places.{list_at};
 ghost use Rattle.judge.specs.Children.{Askable, Askable_prop, passed_on, said};
 ghost use Rattle.judge.specs.Markings.{only_at};
 
@@ -28,7 +33,11 @@ impl Signal<bool> for LastRow {
 
     ghost f = { λ s. only_at s.tick };
 
-    fn step(&self, t: u32) -> (bool, Option<u32>) {
+    fn step(&self, t: u32) -> (bool, Option<u32>)
+        ensures steady { Steady (only_at self.now.tick) t result.0 result.1 }
+        ensures agree { Agree (λ (b : Bool). b) (λ (b : Bool). b) }
+        ensures changed { Changed (only_at self.now.tick) result.0 result.1 }
+    {
         if t < self.tick {
             (false, Some(self.tick))
         } else if t == self.tick {
@@ -58,7 +67,11 @@ impl<'a, 'b, 'c, G: Grade> Signal<bool> for ChildRow<'a, 'b, 'c, G> {
 
     ghost f = { λ s. passed_on G.Grade.kind G.Grade.value s.ranges.begins.now s.ranges.cells.now s.row s.number s.child s.limit (said s.want.pieces.now) };
 
-    fn step(&self, t: u32) -> (bool, Option<u32>) {
+    fn step(&self, t: u32) -> (bool, Option<u32>)
+        ensures steady { Steady (passed_on G.Grade.kind G.Grade.value self.now.ranges.begins.now self.now.ranges.cells.now self.now.row self.now.number self.now.child self.now.limit (said self.now.want.pieces.now)) t result.0 result.1 }
+        ensures agree { Agree (λ (b : Bool). b) (λ (b : Bool). b) }
+        ensures named { ChildCandidate (λ c. list_at self.now.ranges.begins.now self.now.ranges.cells.now c) self.now.row self.now.child self.now.limit (EitherStarts self.now.want.pieces.now (list_at self.now.ranges.begins.now self.now.ranges.cells.now self.now.number)) result.1 }
+    {
         let limit = self.limit;
         let want = PieceList {
             pieces: self.want.pieces,

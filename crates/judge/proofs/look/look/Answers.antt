@@ -1,8 +1,12 @@
 use Rattle.grades.specs.Ranges.{spans}
 use Rattle.grades.specs.Worth.{worth}
 use Rattle.pieces.proofs.Shows.{found_shown}
+use Rattle.judge.proofs.Candidates.{found_starts}
 use Rattle.judge.proofs.look.look.Goals as goal
 
 pub returns : goal.returns
 returns g c =
-    found_shown (worth g.G.Grade.kind g.G.Grade.value) (spans g.G.Grade.kind).lowest c.args.list.now.pieces.now c.args.t c.lookup.result.0 c.lookup.result.1 c.args.list.now.ok c.lookup.ensures
+    record {
+      steady = found_shown (worth g.G.Grade.kind g.G.Grade.value) (spans g.G.Grade.kind).lowest c.args.list.now.pieces.now c.args.t c.lookup.result.0 c.lookup.result.1 c.args.list.now.ok c.lookup.ensures;
+      named = found_starts c.args.list.now.pieces.now c.args.t c.lookup.result.0 c.lookup.result.1 c.lookup.ensures;
+    }

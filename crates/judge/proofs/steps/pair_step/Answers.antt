@@ -2,6 +2,7 @@ use Rattle.grades.specs.Worth.{worth}
 use Rattle.pieces.specs.Ticks.{sooner}
 use Rattle.pieces.proofs.Steadies.{both_steady, steady_as}
 use Rattle.judge.specs.Signals.{heard, op}
+use Rattle.judge.proofs.Candidates.{either_starts}
 use Rattle.judge.proofs.steps.pair_step.Goals as goal
 
 pub returns : goal.returns
@@ -15,5 +16,8 @@ returns g c =
     let y = W c.look-other.result.0 in
     let m = c.look-one.result.1 in
     let n = c.look-other.result.1 in
-    steady_as (λ u. f (l u) (r u)) c.args.t (f x y) (W c.combine.result) (sooner m n) c.first_of.result c.combine.ensures c.first_of.ensures
-    (both_steady l r c.args.t x y m n f c.look-one.ensures c.look-other.ensures)
+    record {
+      steady = steady_as (λ u. f (l u) (r u)) c.args.t (f x y) (W c.combine.result) (sooner m n) c.first_of.result c.combine.ensures c.first_of.ensures
+          (both_steady l r c.args.t x y m n f c.look-one.ensures.steady c.look-other.ensures.steady);
+      named = either_starts c.args.left.now.pieces.now c.args.right.now.pieces.now m n c.first_of.result c.first_of.ensures c.look-one.ensures.named c.look-other.ensures.named;
+    }

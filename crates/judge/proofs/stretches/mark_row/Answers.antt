@@ -23,8 +23,8 @@ loop-start-preserved g c =
         (
           after,
           (
-            upto_push f limit row 0 e ms m i.2.1.0 (found_next f limit row e c.loop-start.start after i.2.1.1 c.loop-start-test.true c.first-after.ensures),
-            c.first-start-in-loop-start.ensures,
+            upto_push f limit row 0 e ms m i.2.1.0 (found_next f limit row e c.loop-start.start after i.2.1.1 c.loop-start-test.true c.first-after.ensures.first),
+            c.first-start-in-loop-start.ensures.first,
           ),
         ),
       ),

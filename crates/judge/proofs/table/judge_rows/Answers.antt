@@ -30,6 +30,6 @@ returns g c =
         w.1.0,
         w.1.1,
         complete_verdict K val rows x before after w.0 begins c.write_rows.auto.cells w.1.0 w.1.1
-            c.rows-rows.ensures.sound.some_row c.list.result.pieces.now c.list.ensures c.args.tick (worth K val v) c.look-verdict.result.1 c.look-verdict.ensures,
+            c.rows-rows.ensures.sound.some_row c.list.result.pieces.now c.list.ensures c.args.tick (worth K val v) c.look-verdict.result.1 c.look-verdict.ensures.steady,
       ),
     )
