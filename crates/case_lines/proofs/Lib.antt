@@ -9,7 +9,5 @@ pub mod OneLeaving
 pub mod Lined
 pub mod Tolds
 pub mod Steps
-pub mod Sunk
-pub mod Resting
 pub mod OnOks
 pub mod EachListing

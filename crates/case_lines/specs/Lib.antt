@@ -7,5 +7,3 @@ pub mod Laws
 pub mod LineTexts
 pub mod PrintedTexts
 pub mod Rests
-pub mod Fronts
-pub mod Buffers

@@ -1,7 +1,6 @@
 // The listing of a case: its fields carried out in turn on a job, and the lines that each prints.
 #![tactic(auto)]
 
-mod buffer;
 mod carrying;
 pub mod cells;
 pub mod field_lister;

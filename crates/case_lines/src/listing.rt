@@ -6,19 +6,20 @@ ghost use Rattle.case_lines.specs.LineTexts.{line_text};
 ghost use Rattle.case_lines.specs.Listings.{Listing, lent_cells};
 ghost use Rattle.case_lines.specs.Leaves.{CaseLeaves, CarriedOn};
 ghost use Rattle.case_lines.specs.Rests.{RestPrints, RestLeaves};
-ghost use Rattle.case_lines.specs.Fronts.{WritesFront, WritesSome};
+ghost use Rattle.streams.specs.Fronts.{WritesFront, WritesSome};
 
-use crate::buffer::LineBuffer;
 use crate::field_lister::FieldLister;
 use crate::line::{Line, refusal_of};
 use crate::opening::Opening;
-use crate::sink::{put_line, send};
+use crate::sink::put_line;
 use jobs::job::Job;
 use lent::cells::Cells;
 use meaning::reading::Reading;
 use pieces::piece::Piece;
 use std::io;
 use std::io::Write;
+use streams::buffer::LineBuffer;
+use streams::sink::send;
 
 // Writes one line alone.
 fn write_line<W: Write>(sink: &mut W, line: Line) -> io::Result<()>

@@ -3,10 +3,10 @@ ghost use Rattle.std.specs.Prelude.{IfSome};
 ghost use Rattle.case_pack.specs.Running.{PacksInto};
 
 use case_text::{BadLine, pack};
-use sinks::write_front;
 use std::alloc::Global;
 use std::io;
 use std::io::{Read, Write};
+use streams::sink::write_front;
 
 /// Reads a text from the source, to its end, and writes the case that it packs into to the sink; or answers the first bad line, and writes
 /// nothing. An error is one of reading, want of memory for the text among them, and nothing is written then; or one of writing, and the sink has got

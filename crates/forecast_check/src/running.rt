@@ -1,6 +1,6 @@
 // The whole program, from a source to a sink.
 ghost use Rattle.std.specs.Prelude.{take, IfSome};
-ghost use Rattle.case_lines.specs.Fronts.{WritesSome};
+ghost use Rattle.streams.specs.Fronts.{WritesSome};
 ghost use Rattle.case_lines.specs.Listings.{Listing, lent_cells};
 
 use crate::reading::{INPUT_BYTES, read_case};

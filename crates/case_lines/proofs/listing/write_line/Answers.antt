@@ -1,7 +1,7 @@
 use Rattle.std.proofs.lemmas.Result.{err_from_is_err_and}
 use Rattle.case_lines.specs.LineTexts.{line_text}
-use Rattle.case_lines.specs.Buffers.{buffered}
-use Rattle.case_lines.proofs.Sunk.{line_fails, line_sent}
+use Rattle.streams.specs.Buffers.{buffered}
+use Rattle.streams.proofs.Sunk.{line_fails, line_sent}
 use Rattle.case_lines.proofs.listing.write_line.Goals as goal
 
 pub returns-in_err-put_line : goal.returns-in_err-put_line

@@ -12,7 +12,7 @@ use Rattle.case_lines.specs.Leaves.{CaseLeaves, CarriedOn}
 use Rattle.case_lines.proofs.Left.{case_left}
 use Rattle.case_lines.proofs.OneListing.{one_listing}
 use Rattle.case_lines.proofs.OnOks.{on_ok, ok_anyway}
-use Rattle.case_lines.proofs.Resting.{alike, lone}
+use Rattle.streams.proofs.Resting.{alike, lone}
 use Rattle.case_lines.proofs.Whole.{begun_lists, lists_begun}
 use Rattle.case_lines.proofs.listing.write_listing.Goals as goal
 

@@ -1,10 +1,10 @@
 use Rattle.std.proofs.Common.{refl, ◌∙◌}
 use Rattle.std.proofs.lemmas.Result.{err_from_is_err_and}
 use Rattle.case_lines.specs.LineTexts.{line_text}
-use Rattle.case_lines.specs.Buffers.{buffered}
+use Rattle.streams.specs.Buffers.{buffered}
 use Rattle.case_lines.specs.Rests.{RestPrints}
 use Rattle.case_lines.proofs.Left.{carried_twice, same_twice}
-use Rattle.case_lines.proofs.Resting.{Unsent, start, one_more, unsent_on, unsent_back, broken, failed, at_last}
+use Rattle.streams.proofs.Resting.{Unsent, start, one_more, unsent_on, unsent_back, broken, failed, at_last}
 use Rattle.case_lines.proofs.listing.write_rest.Goals as goal
 
 pub loop-line-init : goal.loop-line-init

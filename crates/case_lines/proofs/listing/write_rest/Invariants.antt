@@ -3,9 +3,9 @@ use Rattle.runs.specs.States.{State}
 use Rattle.jobs.specs.Jobs.{SameLoan}
 use Rattle.lent.specs.Holding.{Contents, counts, SameLoans}
 use Rattle.case_lines.specs.Leaves.{CarriedOn}
-use Rattle.case_lines.specs.Buffers.{buffered}
+use Rattle.streams.specs.Buffers.{buffered}
 use Rattle.case_lines.specs.Rests.{RestPrints, RestLeaves, work_left}
-use Rattle.case_lines.proofs.Resting.{Sofar, Unsent}
+use Rattle.streams.proofs.Resting.{Sofar, Unsent}
 use Rattle.case_lines.proofs.listing.write_rest.Given as goal
 
 abbrev pub invariant-loop-line : goal.invariant-loop-line

@@ -1,5 +1,5 @@
 use Rattle.std.proofs.Common.{◌≡◌, length, rules}
-use Rattle.forecast_check.proofs.Filled.{first_read}
+use Rattle.streams.proofs.Filled.{first_read}
 use Rattle.forecast_check.proofs.reading.read_case.Goals as goal
 
 pub returns-clause-bytes : goal.returns-clause-bytes

@@ -1,7 +1,7 @@
 use Rattle.std.proofs.Common.{take}
 use Rattle.std.proofs.lemmas.Result.{err_from_is_err_and}
 use Rattle.case_lines.specs.Listings.{Listing, lent_cells}
-use Rattle.case_lines.proofs.Resting.{nothing}
+use Rattle.streams.proofs.Resting.{nothing}
 use Rattle.forecast_check.proofs.running.run.Goals as goal
 
 pub returns-in_err-size : goal.returns-in_err-size

@@ -1,0 +1,3 @@
+pub mod Sunk
+pub mod Resting
+pub mod Filled
