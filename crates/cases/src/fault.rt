@@ -10,7 +10,7 @@ pub enum CaseFault {
     TooLong,
     // The field is cut short, or its tag or its length is wrong.
     BadField,
-    // The field is missing or out of order, or its name is malformed or repeated.
+    // No field is there, or this one may not stand here; or its name is no name, or an earlier field has it.
     Misplaced,
     // The rule's text is no rule.
     Rule(RuleFault),

@@ -57,7 +57,7 @@ clamped_is z h =
     let low = int_min z (pos 1000000) in
     at_most_both (clamped z) z (upper_least itself (negsuc 999999) low z h.0 (lower_left itself z (pos 1000000))) (at_most_trans z low (clamped z) (lower_most itself z (pos 1000000) z (≤ℤ_refl z) h.1) (upper_right itself (negsuc 999999) low))
 
--- a gap is its own grade, and the opposite is the negative
+-- each gap is a grade, itself, and opposites are numbers of the other sign
 abbrev pub margins : Kind
 margins = record {
   Value = Level;

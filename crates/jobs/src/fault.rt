@@ -11,7 +11,7 @@ pub enum EnterFault {
     BadStretch,
     /// The two numbers are not the ends of a reading.
     NotReading,
-    /// The reading is not inside the standing one at some tick of the stretch.
+    /// At a tick of the stretch stands a reading that does not contain this one.
     NotInside,
     /// The line would have more than 64 pieces.
     TooManyPieces,

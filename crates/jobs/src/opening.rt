@@ -10,7 +10,7 @@ use meaning::reading::Reading;
 use pieces::piece::Piece;
 
 impl<'a> Job<'a> {
-    /// A job with as many lines as asked, but at most 16, and at most one for each whole 64 cells. Nothing is known of any line.
+    /// A job with the lines that are asked for, or 16, or those that the cells have room for, 64 for each: whichever is least. Nothing is known of any line.
     pub fn open(lines: usize, cells: &'a mut [Piece<Reading>]) -> Job<'a>
         ensures state { state_of result ≡ opened (line_count lines (length cells.old)) }
         ensures behind { drop (line_cells * line_count lines (length cells.old)) (cells_of result) ≡ drop (line_cells * line_count lines (length cells.old)) cells.old }

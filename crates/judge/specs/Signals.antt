@@ -28,6 +28,6 @@ module _ (K : Kind) where
     abbrev pub heard : List (Piece (Range G)) → ℕ → Span K.Value
     heard ps = at_from (spans K).lowest (shown (worth K value) ps)
 
-    -- right at u, and left at every tick from t to u
+    -- right there, and left all the way from t up to it
     abbrev pub goal : (left right : List (Piece (Range G))) → ℕ → ℕ → Span K.Value
     goal left right t u = until_at (ranges K) (heard left) (heard right) t u

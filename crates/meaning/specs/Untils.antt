@@ -5,7 +5,7 @@ use Rattle.grades.specs.Ranges.{Span}
 use Rattle.meaning.specs.Wants.{Lowest}
 
 module _ (K : Kind) where
-  -- s is the first tick from t to t + b at which left is lowest, or t + b + 1 if there is none
+  -- from t on, up to t + b, left is lowest at s for the first time; where it never is, s is the tick behind t + b
   pub record FirstLowest (left : ℕ → Span K.Value) (b t s : ℕ) : Type 0 where
     pub from : t ≤ s
     pub to : s ≤ suc (t + b)

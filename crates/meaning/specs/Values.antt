@@ -18,7 +18,7 @@ over f s from zero = s from
 over f s from (suc n) = f (s from) (over f s (suc from) n)
 
 module _ {X C : Type 0} (A : Algebra X C) where
-  -- right at u, and left at every tick from t to u
+  -- right at u, and left all the way from t up to it
   unfoldable pub until_at : (ℕ → C) → (ℕ → C) → ℕ → ℕ → C
   until_at left right t u = A.meet (right u) (over A.meet left t (u - t))
 

@@ -29,7 +29,7 @@ pub record GradingLaws (G : Grading) : Type 0 where
 abbrev pub truth_grading : Grading
 truth_grading = record { Grade = λ z. (z ≡ pos 0) ⊎ (z ≡ pos 1); of_gap = λ z. cond (int_le (pos 0) z) (pos 1) (pos 0); opposite = λ z. pos 1 -ℤ z; lowest = pos 0; highest = pos 1 }
 
--- a gap is its own grade, and the opposite is the negative
+-- each gap is a grade, itself, and opposites are numbers of the other sign
 abbrev pub margin_grading : Grading
 margin_grading = record { Grade = GapFits; of_gap = λ z. z; opposite = neg_ℤ; lowest = negsuc 999999; highest = pos 1000000 }
 

@@ -11,7 +11,7 @@ pub enum RuleFault {
     Empty,
     // The text is too long, or somewhere no token begins.
     Token(TokenFault),
-    // The first token that can follow in no text of the grammar, or the text's length.
+    // The token with which no rule text can go on, the first such, or the length of a text that ends too early.
     Grammar { at: usize },
     // A name that is not a line's.
     UnknownName { at: usize },

@@ -79,7 +79,7 @@ fn of_tokens(source: &Source, places: &Places) -> Result<Rule, RuleFault>
 }
 
 impl Rule {
-    // Reads a rule text over lines with these names; only the first 16 count, and of equal ones the first.
+    // Reads a rule text over lines with these names; a 17th name and any behind it are not looked at, and where two are equal the earlier one counts.
     pub fn read(text: &[u8], names: &[&[u8]]) -> Result<Rule, RuleFault>
         ensures { Answered (texts names.now) text.now (answer_of result) }
     {

@@ -10,7 +10,7 @@ use crate::row::{Row, Side};
 use crate::table::Table;
 use tokens::token::Token;
 
-// The first token that can follow in no text of the grammar.
+// The first token with which no rule text can go on.
 #[derive(Clone, Copy)]
 pub(crate) struct Stop {
     pub(crate) at: usize,

@@ -32,6 +32,6 @@ blank = record { start = 0; value = widest } ∷ []
 abbrev pub opened : ℕ → State
 opened n = record { lines = replicate n blank; tally = 0; sealed = false }
 
--- a job has the lines asked for, but at most 16, and at most one for each whole 64 cells
+-- how many lines a job has: those asked for, 16, or those that the cells have room for, whichever is least
 abbrev pub line_count : ℕ → ℕ → ℕ
 line_count asked cells = min asked (min most_lines (cells / line_cells))
