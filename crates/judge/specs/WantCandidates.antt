@@ -9,7 +9,7 @@ use Rattle.judge.specs.Candidates.{Starts, NeverOr}
 abbrev pub FromOr : (ℕ → Type 0) → ℕ → ℕ → Type 0
 FromOr P s r = (r ≡ s) ⊎ P r
 
--- asks, dead, need: the ticks at which the lists change that say where the row asks, where its left child can only be lowest, and where its right one can be more
+-- asks, dead, need: the ticks at which a list changes that says where the row asks, where its left child can only be lowest, and where its right one can be more
 module _ (asks dead : ℕ → Type 0) (a b limit : ℕ) where
   -- n is the first tick that is seen from p, which is 0 or a tick at which the row's asking or its left child changes
   abbrev pub Opens : ℕ → Type 0
@@ -31,7 +31,7 @@ module _ (asks dead : ℕ → Type 0) (a b limit : ℕ) where
 abbrev pub AheadCandidate : (ℕ → Bool) → (ℕ → Type 0) → (ℕ → Type 0) → ℕ → ℕ → ℕ → ℕ → Type 0
 AheadCandidate gone dead need b end w n = ((n ≡ w) × (gone w ≡ true)) ⊎ ((n + b ≡ w) ⊎ ((dead n ⊎ need n) ⊎ (n ≡ end)))
 
--- of the child c of a row that asks by the list `asking`, where `lists` are the ranges of all rows: a test has no child
+-- of the child c of a row whose asking changes at most at `asks`, where `lists` has the list of each row: a test has no child, and no change is named
 abbrev pub ChildCandidate : {V : Type 0} → (ℕ → List (Piece V)) → Row → ℕ → ℕ → (ℕ → Type 0) → Option ℕ → Type 0
 ChildCandidate lists (Test l s m) c limit asks o = o ≡ None
 ChildCandidate lists (Not d) c limit asks o = NeverOr (RightCandidate asks (λ n. ⊥) 0 0 limit) o
