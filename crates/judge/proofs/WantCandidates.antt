@@ -9,7 +9,7 @@ use Rattle.rules.specs.declared.row.Side.{Side}
 use Rattle.rules.specs.declared.row.Row.{Row}
 use Rattle.rules.specs.declared.row.Row.TheVariants.{Test, Not, And, Or, Eventually, Always, Until}
 use Rattle.judge.specs.Candidates.{Starts, EitherStarts, NeverOr}
-use Rattle.judge.specs.WantCandidates.{FromOr, Opens, Closes, RightCandidate, LeftCandidate, AheadCandidate, ChildCandidate}
+use Rattle.judge.specs.WantCandidates.{FromOr, FirstSeen, LastSeen, RightCandidate, LeftCandidate, AheadCandidate, ChildCandidate}
 
 -- a step that is cut off at e ends at a named tick, or goes on at e
 pub clip_cases : (P : ℕ → Type 0) (f : ℕ → Bool) (t e : ℕ) (v : Bool) (o : Option ℕ) → Steady f t v o → t < e → NeverOr P o → P (clip o e) ⊎ ((clip o e ≡ e) × (f e ≡ v))
@@ -42,7 +42,7 @@ module _ (P : ℕ → Type 0) (f : ℕ → Bool) where
   walk_clear s t e v o st l h y n = ⊎_elim (λ x. inr x) (λ x. absurd (both_ways (f e) n (x.1 ∙ y))) (clip_cases P f t e v o st l h)
 
 module _ (A D : ℕ → Type 0) (dead : ℕ → Bool) (a b limit t s : ℕ) (ab : a ≤ b) (sd : FromOr D (t - b) s) where
-  pub opens_at : (p : ℕ) → FromOr A s p → t < p + a → Opens A D a b limit (p + a)
+  pub opens_at : (p : ℕ) → FromOr A s p → t < p + a → FirstSeen A D a b limit (p + a)
   opens_at p h l = (
     p,
     (
@@ -54,7 +54,7 @@ module _ (A D : ℕ → Type 0) (dead : ℕ → Bool) (a b limit t s : ℕ) (ab 
     ),
   )
 
-  pub closes_at : (q : ℕ) (n : ℕ) (o : Option ℕ) → q ≡ clip o limit → NeverOr A o → n ≡ q + b → Closes A D a b limit n
+  pub closes_at : (q : ℕ) (n : ℕ) (o : Option ℕ) → q ≡ clip o limit → NeverOr A o → n ≡ q + b → LastSeen A D a b limit n
   closes_at q n o is h e = (q, (e, subst (λ k. (k ≡ limit) ⊎ A k) (sym is) (clip_or A limit o h)))
 
   -- the first dead tick from t on, or the end

@@ -27,15 +27,15 @@ module _ (K : Kind) {G : Type 0} (value : G → K.Value) (rows : List Row) (x : 
   RowsWritten (Err e) = RowsCut K value rows x before after
 
   -- a judgement: done, it answers the last row's range at the tick, and tells where each list begins
-  abbrev pub Judged : {E : Type 0} → ℕ → Result (Judgement G) E → Type 0
-  Judged tick (Ok j) = (pss : List (List (Piece (Span K.Value)))) × (Complete K value rows x before after pss × BeginAt j.begins pss × (worth K value j.verdict ≡ verdict K rows x tick))
-  Judged tick (Err e) = RowsCut K value rows x before after
+  abbrev pub JudgedRows : {E : Type 0} → ℕ → Result (Judgement G) E → Type 0
+  JudgedRows tick (Ok j) = (pss : List (List (Piece (Span K.Value)))) × (Complete K value rows x before after pss × BeginAt j.begins pss × (worth K value j.verdict ≡ verdict K rows x tick))
+  JudgedRows tick (Err e) = RowsCut K value rows x before after
 
 -- a judged table, with where its lists begin; or the first thing that stands against it
 module _ (K : Kind) {G : Type 0} (value : G → K.Value) where
   abbrev pub JudgedTable : State → List Row → ℕ → List (Piece (Range G)) → List (Piece (Range G)) → Result (Judgement G) JudgeFault → Type 0
   JudgedTable s rows tick before after (Ok j) =
-      HasLines s rows × (tick ≤ 500000000) × Judged K value rows (readings_of s) before after {E = ⊥} tick (Ok j)
+      HasLines s rows × (tick ≤ 500000000) × JudgedRows K value rows (readings_of s) before after {E = ⊥} tick (Ok j)
   JudgedTable s rows tick before after (Err NoSuchLine) = (HasLines s rows → ⊥) × (after ≡ before)
   JudgedTable s rows tick before after (Err LateTick) = HasLines s rows × (tick ≤ 500000000 → ⊥) × (after ≡ before)
   JudgedTable s rows tick before after (Err RowCells) = HasLines s rows × (tick ≤ 500000000) × RowsCut K value rows (readings_of s) before after

@@ -12,16 +12,16 @@ FromOr P s r = (r ≡ s) ⊎ P r
 -- asks, dead, need: the ticks at which a list changes that says where the row asks, where its left child can only be lowest, and where its right one can be more
 module _ (asks dead : ℕ → Type 0) (a b limit : ℕ) where
   -- n is the first tick that is seen from p, which is 0 or a tick at which the row's asking or its left child changes
-  abbrev pub Opens : ℕ → Type 0
-  Opens n = (p : ℕ) × ((n ≡ p + a) × ((p ≡ 0) ⊎ (asks p ⊎ dead p)))
+  abbrev pub FirstSeen : ℕ → Type 0
+  FirstSeen n = (p : ℕ) × ((n ≡ p + a) × ((p ≡ 0) ⊎ (asks p ⊎ dead p)))
 
   -- n is the last tick that is seen from q, which is the limit or a tick at which the row's asking changes
-  abbrev pub Closes : ℕ → Type 0
-  Closes n = (q : ℕ) × ((n ≡ q + b) × ((q ≡ limit) ⊎ asks q))
+  abbrev pub LastSeen : ℕ → Type 0
+  LastSeen n = (q : ℕ) × ((n ≡ q + b) × ((q ≡ limit) ⊎ asks q))
 
   -- of the one child of a row, or of an until's right child
   abbrev pub RightCandidate : ℕ → Type 0
-  RightCandidate n = dead n ⊎ (Opens n ⊎ Closes n)
+  RightCandidate n = dead n ⊎ (FirstSeen n ⊎ LastSeen n)
 
   -- of an until's left child: also where the row begins to ask, or where its right child changes, now or b ticks on
   abbrev pub LeftCandidate : (ℕ → Type 0) → ℕ → Type 0

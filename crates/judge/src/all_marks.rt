@@ -9,7 +9,7 @@ ghost use Rattle.judge.specs.Judged.{JudgedStands};
 
 use crate::judged::Judged;
 use crate::lines::Lines;
-use crate::lists::Lists;
+use crate::lists::CellLists;
 use crate::stretches::mark_row;
 use crate::tried::Asking;
 use grades::grade::Grade;
@@ -24,7 +24,7 @@ impl<'a, 'b, 'c, 'd, G: Grade, L: Lines> Judged<'a, 'b, 'c, 'd, G, L> {
         row: Row,
         k: usize,
         at: usize,
-        wants: Lists<'_, '_, bool>,
+        wants: CellLists<'_, '_, bool>,
         marks: &mut [Mark],
         used: usize,
     ) -> Result<usize, Full>
@@ -43,7 +43,7 @@ impl<'a, 'b, 'c, 'd, G: Grade, L: Lines> Judged<'a, 'b, 'c, 'd, G, L> {
     }
 
     // The marks of all rows below the limit, by the lists of their ranges and of where they are wanted.
-    fn mark_rows(&self, wants: Lists<'_, '_, bool>, marks: &mut [Mark]) -> Result<usize, Full>
+    fn mark_rows(&self, wants: CellLists<'_, '_, bool>, marks: &mut [Mark]) -> Result<usize, Full>
         requires ranges { (k : ℕ) → k < length self.now.rows.now → ListStands self.now.ranges.begins.now self.now.ranges.cells.now k }
         requires wants { (k : ℕ) → k < length self.now.rows.now → ListStands wants.begins.now wants.cells.now (length self.now.rows.now - 1 - k) }
         ensures { MarkedRows (λ k. is_test (row_at self.now.rows.now k)) (λ k. asks_at G.Grade.kind G.Grade.value self.now.ranges.begins.now self.now.ranges.cells.now wants.entry.begins.now wants.entry.cells.now k (length self.now.rows.now - 1 - k)) (λ k. self.now.limit) (length self.now.rows.now) marks.old marks.new result }
@@ -58,7 +58,7 @@ impl<'a, 'b, 'c, 'd, G: Grade, L: Lines> Judged<'a, 'b, 'c, 'd, G, L> {
     // The marks, by the want lists of all rows.
     pub(crate) fn write_marks(
         &self,
-        wants: Lists<'_, '_, bool>,
+        wants: CellLists<'_, '_, bool>,
         marks: &mut [Mark],
     ) -> Result<usize, Full>
         requires stands { JudgedStands G.Grade.kind G.Grade.value L.Lines.x self.now }

@@ -7,12 +7,12 @@ use pieces::piece::Piece;
 
 // List k lies in the cells from `begins[k]` up to `begins[k + 1]`.
 #[derive(Clone, Copy)]
-pub(crate) struct Lists<'a, 'b, V> {
+pub(crate) struct CellLists<'a, 'b, V> {
     pub(crate) begins: &'a [usize],
     pub(crate) cells: &'b [Piece<V>],
 }
 
-impl<'a, 'b, V: Copy> Lists<'a, 'b, V> {
+impl<'a, 'b, V: Copy> CellLists<'a, 'b, V> {
     // List k, to be looked up.
     pub(crate) fn list(&self, k: usize) -> PieceList<'b, V>
         requires { ListStands self.now.begins.now self.now.cells.now k }

@@ -13,7 +13,7 @@ use crate::fault::MarkFault;
 use crate::judged::Judged;
 use crate::judging::judge_table;
 use crate::lines::Lines;
-use crate::lists::Lists;
+use crate::lists::CellLists;
 use grades::grade::Grade;
 use grades::range::Range;
 use jobs::job::Job;
@@ -40,7 +40,7 @@ impl<'a, 'b, 'c, 'd, G: Grade, L: Lines> Judged<'a, 'b, 'c, 'd, G, L> {
         let starts = self
             .write_wants(wants)
             .map_err(|_full| MarkFault::WantCells)?;
-        let written = Lists {
+        let written = CellLists {
             begins: &starts,
             cells: wants,
         };
@@ -71,7 +71,7 @@ pub fn mark<'a, G: Grade>(
         rows,
         tick,
         limit: tick + rule.reach() + 1,
-        ranges: Lists {
+        ranges: CellLists {
             begins: &judgement.begins,
             cells,
         },

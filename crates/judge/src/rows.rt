@@ -12,7 +12,7 @@ ghost use Rattle.judge.specs.Places.{list_at, list_says, RowReady, RowReady_prop
 
 use crate::limits::tested;
 use crate::lines::Lines;
-use crate::lists::Lists;
+use crate::lists::CellLists;
 use crate::steps::{Way, not_step, pair_step, window_step};
 use crate::until::until_step;
 use grades::grade::Grade;
@@ -25,7 +25,7 @@ use rules::row::Row;
 // One step of a row, over the lists of the rows before it.
 fn row_step<G: Grade, L: Lines>(
     row: Row,
-    done: Lists<'_, '_, Range<G>>,
+    done: CellLists<'_, '_, Range<G>>,
     lines: &L,
     t: u32,
 ) -> (Range<G>, Option<u32>)
@@ -74,7 +74,7 @@ fn row_step<G: Grade, L: Lines>(
 #[derive(Drop)]
 struct RowSignal<'a, 'b, 'c, G, L> {
     row: Row,
-    done: Lists<'a, 'b, Range<G>>,
+    done: CellLists<'a, 'b, Range<G>>,
     lines: &'c L,
     ghost ready: { RowReady row done.begins.now done.cells.now } by { RowReady_prop row done.begins.now done.cells.now },
 }
@@ -108,7 +108,7 @@ pub(crate) fn write_row<G: Grade, L: Lines>(
     ensures { Written (worth G.Grade.kind G.Grade.value) (row_value (ranges G.Grade.kind) (L.Lines.x lines.now) (list_says G.Grade.kind G.Grade.value begins.now (take used cells.old)) row) cells.old used cells.new result }
 {
     let (cells, rest) = cells.split_at_mut(used);
-    let done = Lists { begins, cells };
+    let done = CellLists { begins, cells };
     let signal = RowSignal { row, done, lines };
     let written = sweep(&signal, rest, 0)?;
     Ok(used + written)

@@ -3,11 +3,11 @@ ghost use Rattle.std.specs.Prelude.{ℕ};
 ghost use Rattle.rules.specs.Rows.{Sound};
 ghost use Rattle.rules.specs.Texts.{table_of};
 ghost use Rattle.pieces.specs.Ticks.{Settles};
-ghost use Rattle.judge.specs.Judges.{RowsWritten, Judged};
+ghost use Rattle.judge.specs.Judges.{RowsWritten, JudgedRows};
 
 use crate::judgement::Judgement;
 use crate::lines::Lines;
-use crate::lists::Lists;
+use crate::lists::CellLists;
 use crate::look::look;
 use crate::rows::write_row;
 use grades::grade::Grade;
@@ -44,11 +44,11 @@ pub(crate) fn judge_rows<G: Grade, L: Lines>(
     cells: &mut [Piece<Range<G>>],
 ) -> Result<Judgement<G>, Full>
     requires { (line : ℕ) → Settles (L.Lines.x lines.now line) }
-    ensures { Judged G.Grade.kind G.Grade.value (table_of rule.now) (L.Lines.x lines.now) cells.old cells.new tick result }
+    ensures { JudgedRows G.Grade.kind G.Grade.value (table_of rule.now) (L.Lines.x lines.now) cells.old cells.new tick result }
 {
     let rows = rule.rows();
     let begins = write_rows(lines, rows, cells)?;
-    let lists = Lists {
+    let lists = CellLists {
         begins: &begins,
         cells,
     };

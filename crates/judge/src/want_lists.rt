@@ -5,7 +5,7 @@ ghost use Rattle.judge.specs.Judged.{JudgedStands};
 
 use crate::judged::Judged;
 use crate::lines::Lines;
-use crate::lists::Lists;
+use crate::lists::CellLists;
 use crate::want_signals::{ChildRow, LastRow};
 use grades::grade::Grade;
 use pieces::piece::Piece;
@@ -18,7 +18,7 @@ impl<'a, 'b, 'c, 'd, G: Grade, L: Lines> Judged<'a, 'b, 'c, 'd, G, L> {
     fn write_want(
         &self,
         i: usize,
-        done: Lists<'_, '_, bool>,
+        done: CellLists<'_, '_, bool>,
         rest: &mut [Piece<bool>],
     ) -> Result<usize, Full>
         requires stands { JudgedStands G.Grade.kind G.Grade.value L.Lines.x self.now }
@@ -59,7 +59,7 @@ impl<'a, 'b, 'c, 'd, G: Grade, L: Lines> Judged<'a, 'b, 'c, 'd, G, L> {
         ensures { WantWritten G.Grade.kind self.now.rows.now (L.Lines.x self.now.lines.now) self.now.tick i wants.old used wants.new result }
     {
         let (cells, rest) = wants.split_at_mut(used);
-        let done = Lists {
+        let done = CellLists {
             begins: starts,
             cells,
         };

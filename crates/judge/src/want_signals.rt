@@ -9,7 +9,7 @@ ghost use Rattle.judge.specs.Children.{Askable, Askable_prop, passed_on, said};
 ghost use Rattle.judge.specs.Markings.{only_at};
 
 use crate::child::{left_at, right_at};
-use crate::lists::Lists;
+use crate::lists::CellLists;
 use crate::trial::Trial;
 use crate::tried::{Asking, Never, Tried};
 use crate::window::Window;
@@ -55,7 +55,7 @@ pub(crate) struct ChildRow<'a, 'b, 'c, G> {
     pub(crate) number: usize,
     pub(crate) child: usize,
     pub(crate) limit: u32,
-    pub(crate) ranges: Lists<'a, 'b, Range<G>>,
+    pub(crate) ranges: CellLists<'a, 'b, Range<G>>,
     pub(crate) want: PieceList<'c, bool>,
     ghost askable: { Askable row number limit ranges.begins.now ranges.cells.now } by { Askable_prop row number limit ranges.begins.now ranges.cells.now },
 }

@@ -1,7 +1,7 @@
 use Rattle.std.proofs.Common.{◌-◌, length, Ok, subst, arith}
 use Rattle.pieces.specs.declared.sweep.Full.{Full}
 use Rattle.judge.specs.declared.judgement.Judgement.{Judgement}
-use Rattle.judge.specs.Judges.{Judged}
+use Rattle.judge.specs.Judges.{JudgedRows}
 use Rattle.grades.specs.Worth.{worth}
 use Rattle.judge.proofs.Filling.{complete_stands, complete_verdict}
 use Rattle.judge.proofs.table.judge_rows.Goals as goal
@@ -24,7 +24,7 @@ returns g c =
     let w = c.in_ok-begins.ensures in
     let v = c.look-verdict.result.0 in
     let j : Judgement g.row.G.Denot = record { verdict = v; begins = begins } in
-    subst (λ rs. Judged K val rs x before after {E = Full} c.args.tick (Ok j)) c.rows-rows.ensures.is (
+    subst (λ rs. JudgedRows K val rs x before after {E = Full} c.args.tick (Ok j)) c.rows-rows.ensures.is (
       w.0,
       (
         w.1.0,
