@@ -16,7 +16,7 @@ use std::{fmt, io};
 use streams::buffer::LineBuffer;
 use streams::sink::send;
 
-// Puts the listing of the answer where nothing waits. A listing has 65 lines of at most 40 bytes.
+// Puts the listing of the answer where nothing waits. A listing has at most 65 lines of at most 40 bytes.
 fn hold_listing(buffer: &mut LineBuffer, answer: Result<Rule, RuleFault>) -> fmt::Result
     requires { buffered buffer.old ≡ [] }
     ensures { OnOk result (buffered buffer.new ≡ listing_of (answer_of answer)) }
