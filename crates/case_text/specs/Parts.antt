@@ -9,7 +9,7 @@ use Rattle.case_text.specs.declared.line.EntryWords.{EntryWords}
 use Rattle.case_text.specs.declared.split.Split.{Split}
 use Rattle.std.specs.Borrow.{Bor}
 use Rattle.tokens.specs.Answers.{texts}
-use Rattle.case_text.specs.declared.packing.Before.{Before}
+use Rattle.case_text.specs.declared.packing.PackedSoFar.{PackedSoFar}
 use Rattle.case_text.specs.Pieces.{words_of, first_word, behind_word}
 use Rattle.case_text.specs.Words.{WholeNumber, WordsEnter}
 use Rattle.case_text.specs.Sayings.{Silent, LineSays, Foregone, and_then, Speaks, Bad}
@@ -34,7 +34,7 @@ abbrev pub ValueRead : {A : Type 0} → (A → Type 0) → Option A → Type 0
 ValueRead {A} R None = (x : A) → R x → ⊥
 ValueRead R (Some x) = R x
 
--- five words stand between single spaces, or another number of them does
+-- the text has five words, or another number of them
 abbrev pub words_in : EntryWords → List (List ℕ)
 words_in f = f.which.now ∷ (f.begin.now ∷ (f.end.now ∷ (f.low.now ∷ (f.high.now ∷ []))))
 
@@ -61,7 +61,7 @@ ContentOf names line None = (i : Item) → LineSays names line i → ⊥
 ContentOf names line (Some c) = LineSays names line (item_of c)
 
 -- what stands before a line, as the program holds it
-abbrev pub foregone : Before → Foregone
+abbrev pub foregone : PackedSoFar → Foregone
 foregone b = record { names = texts b.names.items; ruled = b.ruled; size = length b.case.items }
 
 -- small enough for a field, and for the bytes that a case has left

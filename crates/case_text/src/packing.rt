@@ -21,7 +21,7 @@ const HEAD_BYTES: usize = 3;
 
 // What stands before a line: names, whether the rule does, and the fields of the case.
 #[derive(Drop)]
-pub(crate) struct Before<'a> {
+pub(crate) struct PackedSoFar<'a> {
     names: ArrayVec<&'a [u8], NAMES>,
     ruled: bool,
     case: ArrayVec<u8, CASE_BYTES>,
@@ -39,7 +39,7 @@ fn field_bytes(content: Content<'_>) -> usize
     }
 }
 
-impl<'a> Before<'a> {
+impl<'a> PackedSoFar<'a> {
     // Whether a case's field that says it may stand here.
     fn places(&self, content: Content<'_>) -> bool
         ensures { Decides result (PlacedBy self.now.ruled (texts self.now.names.items) (item_of content.entry)) }
@@ -95,7 +95,7 @@ impl<'a> Before<'a> {
 pub fn pack(text: &[u8]) -> Result<ArrayVec<u8, CASE_BYTES>, BadLine>
     ensures { MatchResult result (λ case. Packed text.now case.items) (λ f. StopsAtLine text.now f.number) }
 {
-    let mut before = Before {
+    let mut before = PackedSoFar {
         names: ArrayVec::new(),
         ruled: false,
         case: ArrayVec::new(),

@@ -15,6 +15,7 @@ use lent::cells::Cells;
 use pieces::piece::Piece;
 use script_lines::fault::ScriptFault;
 use script_lines::script::Script;
+use script_lines::step::{MOST_MARKS, MOST_ROWS, MOST_WANTS};
 use scripts::script::play_all;
 use std::alloc::AllocError;
 use std::io;
@@ -24,14 +25,14 @@ use std::process::ExitCode;
 // How many cells the program has: for the pieces of 16 lines, for the row lists of each kind of grade, for the want lists, and for the marks.
 const PIECES: usize = 1024;
 
-const ROWS: usize = 4096;
+const ROWS: usize = MOST_ROWS as usize;
 
-const WANTS: usize = 4096;
+const WANTS: usize = MOST_WANTS as usize;
 
-const MARKS: usize = 1024;
+const MARKS: usize = MOST_MARKS as usize;
 
 // What stands in a row cell before anything is written: from lowest to lowest.
-fn blank_row<G: Grade>() -> Piece<Range<G>>
+fn lowest_row<G: Grade>() -> Piece<Range<G>>
     ensures start { result.start ≡ 0 }
     ensures value { worth G.kind G.value result.value ≡ span G.kind.lowest G.kind.lowest }
 {
@@ -45,12 +46,12 @@ fn blank_row<G: Grade>() -> Piece<Range<G>>
 }
 
 // Carries out the script's steps, and prints what each says.
-fn carry_out(rt: &HostRuntime, script: &Script) -> io::Result<()> {
+fn carry_script(rt: &HostRuntime, script: &Script) -> io::Result<()> {
     let calls = script.calls(rt.alloc())?;
     // A program's cells are arrays of its own, handed on as slices.
     let mut pieces = [blank_piece(); PIECES];
-    let mut truths = [blank_row(); ROWS];
-    let mut margins = [blank_row(); ROWS];
+    let mut truths = [lowest_row(); ROWS];
+    let mut margins = [lowest_row(); ROWS];
     let mut wants = [BLANK_WANT; WANTS];
     let mut marks = [BLANK_MARK; MARKS];
     let mut cells = Cells {
@@ -76,7 +77,7 @@ fn main(rt: HostRuntime) -> io::Result<ExitCode> {
     let _ = rt.stdin().read_to_end(&mut text)?;
     match Script::read(text.as_slice(), rt.alloc()) {
         Ok(script) => {
-            carry_out(&rt, &script)?;
+            carry_script(&rt, &script)?;
             Ok(ExitCode::SUCCESS)
         }
         Err(ScriptFault::BadLine { number }) => {

@@ -1,19 +1,12 @@
 // What a line of a script asks.
 use crate::keyword::{Keyword, keyword_of};
-use crate::step::GradeKind;
+use crate::step::{GradeKind, MOST_MARKS, MOST_ROWS, MOST_WANTS};
 use crate::words::{kind_of, named_line, up_to};
 use case_text::line::five_words;
 use case_text::number::{reading, whole};
 use case_text::split::{from_first, next_word, one_word, spoken_of};
 use cases::field::Entry;
 use scripts::call::Portion;
-
-// The most cells of each sort that a script may lend, or show.
-pub(crate) const MOST_ROWS: u32 = 4096;
-
-const MOST_WANTS: u32 = 4096;
-
-const MOST_MARKS: u32 = 1024;
 
 #[derive(Clone, Copy)]
 pub(crate) enum Ask<'t> {

@@ -6,6 +6,15 @@ use rules::fault::RuleFault;
 use rules::rule::Rule;
 use scripts::call::{Call, Portion};
 
+/// The most row cells of each kind that a script may lend, or show.
+pub const MOST_ROWS: u32 = 4096;
+
+/// The most want cells that a script may lend, or show.
+pub const MOST_WANTS: u32 = 4096;
+
+/// The most mark cells that a script may lend.
+pub const MOST_MARKS: u32 = 1024;
+
 /// A kind of grade.
 #[derive(Clone, Copy, PartialEq, Eq)]
 pub enum GradeKind {

@@ -7,7 +7,7 @@ use Rattle.case_text.specs.Parts.{foregone, took, AddsField}
 use Rattle.case_text.proofs.Growing.{adds_size}
 use Rattle.case_text.proofs.Keywords.{fits_here}
 use Rattle.case_text.proofs.OneAnswer.{barred_here}
-use Rattle.case_text.proofs.packing.Before.take.Goals as goal
+use Rattle.case_text.proofs.packing.PackedSoFar.take.Goals as goal
 
 pub put-requires : goal.put-requires
 put-requires c = fits_here (foregone c.args.self.now) (item_of c.in-Some.content) (c.if-not-lets.ensures.0 refl)
