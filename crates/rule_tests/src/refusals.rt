@@ -138,10 +138,3 @@ pub(crate) static REFUSALS: [Case; 92] = [
     Case(Led(3, "F[0,250000000]", "a>=1"), Refused(TooFar)),
     Case(Led(16, "F[0,500000000]", "a>=1"), Refused(TooFar)),
 ];
-
-#[test]
-fn refusals_stand(rt: HostRuntime) {
-    for case in &REFUSALS {
-        assert!(rt; case.stands());
-    }
-}

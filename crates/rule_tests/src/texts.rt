@@ -95,16 +95,6 @@ static NAMES: [&[u8]; 17] = [
     b"q",
 ];
 
-impl Case {
-    // Whether a text that is written in one piece is answered so; one that is put together needs the heap.
-    pub(crate) fn stands(&self) -> bool {
-        match &self.0 {
-            Plain(text) => Outcome::of(&Rule::read(text.as_bytes(), &NAMES)) == self.1,
-            _ => true,
-        }
-    }
-}
-
 impl Run for Case {
     fn run(&self, rt: &HostRuntime, tally: &mut Tally) -> io::Result<()> {
         let text = self.0.written_out(rt.alloc())?;
