@@ -34,3 +34,7 @@ item_of (content.Tick t) = tick t
 abbrev pub ContentRead : ℕ → List ℕ → Result Content CaseFault → Type 0
 ContentRead tag body (Ok c) = Says tag body (item_of c)
 ContentRead tag body (Err f) = Wrong tag body × (f ≡ BadField)
+
+-- the tick is in the entry's stretch on the line
+abbrev pub Covers : Entry → ℕ → ℕ → Type 0
+Covers e line t = (line ≡ e.line) × (e.from ≤ t) × (t < e.to)

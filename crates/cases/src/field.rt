@@ -1,7 +1,7 @@
 // The fields of a case.
-ghost use Rattle.std.specs.Prelude.{◌≡◌, ◌+◌, ◌≤◌, length};
+ghost use Rattle.std.specs.Prelude.{◌≡◌, ◌+◌, ◌≤◌, length, Decides};
 ghost use Rattle.cases.specs.Numbers.{four_byte_number, signed_at};
-ghost use Rattle.cases.specs.Contents.{ContentRead};
+ghost use Rattle.cases.specs.Contents.{ContentRead, Covers};
 
 use crate::fault::CaseFault;
 use crate::tag;
@@ -29,6 +29,15 @@ pub struct Entry {
     pub to: u32,
     pub lower: i32,
     pub upper: i32,
+}
+
+impl Entry {
+    /// Whether the entry is of the line, and the tick in its stretch.
+    pub fn covers(self, line: usize, t: usize) -> bool
+        ensures { Decides result (Covers self line t) }
+    {
+        self.line as usize == line && self.from as usize <= t && t < self.to as usize
+    }
 }
 
 // What a field says.

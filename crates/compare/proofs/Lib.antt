@@ -1,4 +1,3 @@
 mod Questions
-mod Blanks
 mod Found
 mod Ticks

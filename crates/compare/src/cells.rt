@@ -199,7 +199,7 @@ impl Cell for Mark {
 pub fn blanks<C: Cell>(heap: Global, count: usize) -> Result<Vec<C>, AllocError>
     ensures { IfOk result (λ cells. Blanks C.held C.unwritten count cells.items) }
 {
-    let mut cells = Vec::new(heap);
+    let mut cells = Vec::with_capacity(heap, count)?;
     // Not by `vec!`: that a clone holds the same is no law of cells.
     for _ in 0..count {
         cells.push(C::blank())?;

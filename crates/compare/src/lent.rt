@@ -120,7 +120,7 @@ impl<G: Measured> Lent<G> {
     }
 
     // How much was written of blank cells.
-    pub(crate) fn used(&self) -> Room
+    pub fn used(&self) -> Room
         ensures { result ≡ written_room (graded G.number) G.Scale.grading self.now.rows.items self.now.wants.items self.now.marks.items }
     {
         Room {
@@ -131,7 +131,7 @@ impl<G: Measured> Lent<G> {
     }
 
     // Whether so many cells are as in the whole lists.
-    pub(crate) fn begins(&self, whole: &Lent<G>, filled: Room) -> bool
+    pub fn begins(&self, whole: &Lent<G>, filled: Room) -> bool
         ensures { result ≡ alike_room (graded G.number) G.Scale.grading filled self.now.rows.items self.now.wants.items self.now.marks.items whole.now.rows.items whole.now.wants.items whole.now.marks.items }
     {
         begin_alike(self.rows.as_slice(), whole.rows.as_slice(), filled.rows)

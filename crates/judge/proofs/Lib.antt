@@ -1,6 +1,7 @@
 pub mod Knowns
 pub mod Anys
 pub mod Sights
+pub mod Parts
 pub mod Walks
 pub mod StretchLists
 pub mod RowMarks

@@ -3,6 +3,7 @@ use Rattle.std.specs.Prelude.{◌≡◌, ℕ, ◌+◌, ◌<◌, ◌≤◌, min, 
 use Rattle.reference.specs.declared.ends.Ends.{Ends}
 use Rattle.reference.specs.declared.forecast.Forecast.{Forecast}
 use Rattle.cases.specs.declared.field.Entry.{Entry}
+use Rattle.cases.specs.Contents.{Covers}
 use Rattle.jobs.specs.declared.fault.EnterFault.{EnterFault}
 use Rattle.jobs.specs.declared.fault.EnterFault.TheVariants.{Sealed, NoSuchLine, BadStretch, NotReading, NotInside, TooManyPieces}
 
@@ -56,10 +57,6 @@ EntryAnswer f e (Err BadStretch) = (f.sealed ≡ false) × (e.line < f.lines) ×
 EntryAnswer f e (Err NotReading) = (f.sealed ≡ false) × (e.line < f.lines) × EntryStretch e × (Readable e → ⊥)
 EntryAnswer f e (Err NotInside) = (f.sealed ≡ false) × (e.line < f.lines) × EntryStretch e × Readable e × (EntryNarrows f e → ⊥)
 EntryAnswer f e (Err TooManyPieces) = ⊥
-
--- the tick is in the entry's stretch on the line
-abbrev pub Covers : Entry → ℕ → ℕ → Type 0
-Covers e line t = (line ≡ e.line) × (e.from ≤ t) × (t < e.to)
 
 -- the readings of the lines that are kept are the entry's where it covers them, and elsewhere as they were
 pub record SetsInForecast (f : Forecast) (e : Entry) (g : Forecast) : Type 0 where

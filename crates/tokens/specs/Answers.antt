@@ -1,5 +1,5 @@
 -- What the lexer answers of a whole text.
-use Rattle.std.specs.Prelude.{ℕ, ◌<◌, ◌≤◌, List, map, length}
+use Rattle.std.specs.Prelude.{ℕ, ◌<◌, ◌≤◌, List, map, length, take}
 use Rattle.std.specs.Borrow.{Bor}
 use Rattle.tokens.specs.declared.fault.TokenFault.{TokenFault}
 use Rattle.tokens.specs.declared.fault.TokenFault.TheVariants.{TooLong, Malformed}
@@ -13,10 +13,10 @@ texts names = map (λ x. x.now) names
 
 -- the tokens that a list holds, and the place of each
 abbrev pub tokens_of : Tokens → List Token
-tokens_of ts = ts.tokens.items
+tokens_of ts = take ts.count ts.tokens
 
 abbrev pub places_of : Tokens → List ℕ
-places_of ts = ts.places.items
+places_of ts = take ts.count ts.places
 
 -- the text has at most 1,024 bytes, and falls into the tokens of the list
 pub record Tokenized (names : List (List ℕ)) (text : List ℕ) (ts : Tokens) : Type 0 where

@@ -1,52 +1,55 @@
 // The tokens of a text, each with its place.
-ghost use Rattle.std.specs.Prelude.{◌≡◌, ◌<◌, [], ◌∷◌, ◌++◌, length};
-ghost use Rattle.arrayvec.specs.ArrayVec.{ArrayVec};
+ghost use Rattle.std.specs.Prelude.{◌≡◌, ◌<◌, ◌≤◌, [], ◌∷◌, ◌++◌, length, take};
 
 use super::token::Token;
-use arrayvec::ArrayVec;
 
 // A token takes a byte at least, so 1,024 bytes have no more tokens than that.
-// Places are a vector of their own, since the readers of a rule go over the tokens alone.
+// Plain arrays with a count: array vectors of this size cost more to fill and to move than most rules cost to read.
+// Places are an array of their own, since the readers of a rule go over the tokens alone.
 #[derive(Drop)]
 pub struct Tokens {
-    tokens: ArrayVec<Token, 1024>,
-    places: ArrayVec<usize, 1024>,
-    ghost paired: { length places.items ≡ length tokens.items },
+    tokens: [Token; 1024],
+    places: [usize; 1024],
+    count: usize,
+    ghost fits: { count ≤ 1024 },
 }
 
 impl Tokens {
     // No token.
     pub(crate) fn new() -> Tokens
-        ensures tokens { result.tokens.items ≡ [] }
-        ensures places { result.places.items ≡ [] }
+        ensures tokens { take result.count result.tokens ≡ [] }
+        ensures places { take result.count result.places ≡ [] }
     {
         Tokens {
-            tokens: ArrayVec::new(),
-            places: ArrayVec::new(),
+            tokens: [Token::Or; 1024],
+            places: [0; 1024],
+            count: 0,
         }
     }
 
     // Puts one more token behind the others.
     pub(crate) fn push(&mut self, place: usize, token: Token)
-        requires { length self.old.tokens.items < 1024 }
-        ensures tokens { self.new.tokens.items ≡ self.old.tokens.items ++ token ∷ [] }
-        ensures places { self.new.places.items ≡ self.old.places.items ++ place ∷ [] }
+        requires { length (take self.old.count self.old.tokens) < 1024 }
+        ensures tokens { take self.new.count self.new.tokens ≡ take self.old.count self.old.tokens ++ token ∷ [] }
+        ensures places { take self.new.count self.new.places ≡ take self.old.count self.old.places ++ place ∷ [] }
     {
-        self.tokens.push(token);
-        self.places.push(place);
+        let at = self.count;
+        self.tokens[at] = token;
+        self.places[at] = place;
+        self.count = at + 1;
     }
 
     // The tokens, from the left.
     pub fn tokens(&self) -> &[Token]
-        ensures { result.now ≡ self.now.tokens.items }
+        ensures { result.now ≡ take self.now.count self.now.tokens }
     {
-        self.tokens.as_slice()
+        &self.tokens[0..self.count]
     }
 
     // Where each token's first byte stands in the text.
     pub fn places(&self) -> &[usize]
-        ensures { result.now ≡ self.now.places.items }
+        ensures { result.now ≡ take self.now.count self.now.places }
     {
-        self.places.as_slice()
+        &self.places[0..self.count]
     }
 }
