@@ -1,13 +1,14 @@
 // What a line of a text says.
-ghost use Rattle.std.specs.Prelude.{Decides};
+ghost use Rattle.std.specs.Prelude.{ℕ, List, Decides};
 ghost use Rattle.tokens.specs.Answers.{texts};
 ghost use Rattle.case_text.specs.Words.{WordsEnter};
 ghost use Rattle.case_text.specs.Sayings.{Silent};
-ghost use Rattle.case_text.specs.Parts.{ValueRead, Five, ContentOf, NameContent, TickContent};
+ghost use Rattle.case_text.specs.Pieces.{spoken};
+ghost use Rattle.case_text.specs.Parts.{ValueRead, Five, Begins, ContentOf, NameContent, TickContent};
 
 use crate::keyword::{Keyword, keyword_of};
 use crate::number::{reading, whole};
-use crate::split::{from_first, next_word, one_word, spoken_of};
+use crate::split::{Split, from_first, next_word, one_word, spoken_of};
 use crate::word::line_of;
 use cases::field::{Content, Entry};
 
@@ -81,11 +82,10 @@ fn entry_of(names: &[&[u8]], words: &[u8]) -> Option<Entry>
     })
 }
 
-// What the line says behind lines that gave these names.
-pub(crate) fn content_of<'a>(names: &[&[u8]], line: &'a [u8]) -> Option<Content<'a>>
-    ensures { ContentOf (texts names.now) line.now result }
+// What a line says behind lines that gave these names, by its first word and what stands behind that.
+pub(crate) fn content_of<'a>(names: &[&[u8]], split: Split<'a>) -> Option<Content<'a>>
+    ensures { (line : List ℕ) → Begins (spoken line) split.entry.front.now split.entry.rest.now → ContentOf (texts names.now) line result }
 {
-    let split = next_word(spoken_of(line))?;
     match keyword_of(split.front)? {
         Keyword::Line => name_of(split.rest),
         Keyword::Rule => Some(Content::Rule(from_first(split.rest))),

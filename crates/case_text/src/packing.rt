@@ -8,7 +8,8 @@ ghost use Rattle.case_text.specs.Parts.{foregone, LineTaken, LineRefused};
 
 use crate::fault::BadLine;
 use crate::field::put;
-use crate::line::{content_of, is_silent};
+use crate::line::content_of;
+use crate::split::{next_word, spoken_of};
 use arrayvec::ArrayVec;
 use cases::field::{Content, ENTRY_BYTES, TICK_BYTES};
 use cases::names::{NAMES, admits};
@@ -76,10 +77,10 @@ impl<'a> PackedSoFar<'a> {
     fn take(&mut self, number: usize, line: &'a [u8]) -> Result<(), BadLine>
         ensures { MatchResult result (λ _. LineTaken (foregone self.old) self.old.case.items line.now (foregone self.new) self.new.case.items) (λ f. LineRefused (foregone self.old) line.now number f) }
     {
-        if is_silent(line) {
+        let Some(split) = next_word(spoken_of(line)) else {
             return Ok(());
-        }
-        let Some(content) = content_of(self.names.as_slice(), line) else {
+        };
+        let Some(content) = content_of(self.names.as_slice(), split) else {
             return Err(BadLine { number });
         };
         if !self.lets(content) {
