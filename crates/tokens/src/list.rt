@@ -12,6 +12,7 @@ pub struct Tokens {
     places: [usize; 1024],
     count: usize,
     ghost fits: { count ≤ 1024 },
+    ghost paired: { length (take count places) ≡ length (take count tokens) },
 }
 
 impl Tokens {
