@@ -18,16 +18,18 @@ use crate::until::until_step;
 use grades::grade::Grade;
 use grades::range::Range;
 use pieces::piece::Piece;
-use pieces::signal::Signal;
+use pieces::signal::{Near, Signal};
 use pieces::sweep::{Full, sweep};
 use rules::row::Row;
 
-// One step of a row, over the lists of the rows before it.
+// One step of a row, over the lists of the rows before it. Not, and, or look first where the last step looked; a test reads its line, and the walks
+// of a window begin anew at each step.
 fn row_step<G: Grade, L: Lines>(
     row: Row,
     done: CellLists<'_, '_, Range<G>>,
     lines: &L,
     t: u32,
+    near: &mut Near,
 ) -> (Range<G>, Option<u32>)
     requires { RowReady row done.begins.now done.cells.now }
     ensures steady { Steady (row_value (ranges G.Grade.kind) (L.Lines.x lines.now) (list_says G.Grade.kind G.Grade.value done.entry.begins.now done.entry.cells.now) row) t (worth G.Grade.kind G.Grade.value result.0) result.1 }
@@ -38,16 +40,16 @@ fn row_step<G: Grade, L: Lines>(
             let (reading, next) = lines.read(line, t);
             (tested(side, limit, reading), next)
         }
-        Row::Not { child } => not_step(&done.list(child), t),
+        Row::Not { child } => not_step(&done.list(child), t, &mut near.left),
         Row::And { left, right } => {
             let left = done.list(left);
             let right = done.list(right);
-            pair_step(Way::Lower, &left, &right, t)
+            pair_step(Way::Lower, &left, &right, t, near)
         }
         Row::Or { left, right } => {
             let left = done.list(left);
             let right = done.list(right);
-            pair_step(Way::Upper, &left, &right, t)
+            pair_step(Way::Upper, &left, &right, t, near)
         }
         Row::Eventually { from, to, child } => {
             let child = done.list(child);
@@ -86,12 +88,19 @@ impl<'a, 'b, 'c, G: Grade, L: Lines> Signal<Range<G>> for RowSignal<'a, 'b, 'c, 
 
     ghost f = { λ s. row_value (ranges G.Grade.kind) (L.Lines.x s.lines.now) (list_says G.Grade.kind G.Grade.value s.done.begins.now s.done.cells.now) s.row };
 
+    ghost may_answer = { λ s t v next. RowCandidate (L.Lines.x s.lines.now) (λ c. list_at s.done.begins.now s.done.cells.now c) s.row t next };
+
     fn step(&self, t: u32) -> (Range<G>, Option<u32>)
         ensures steady { Steady (row_value (ranges G.Grade.kind) (L.Lines.x self.now.lines.now) (list_says G.Grade.kind G.Grade.value self.now.done.begins.now self.now.done.cells.now) self.now.row) t (worth G.Grade.kind G.Grade.value result.0) result.1 }
         ensures agree { Agree (worth G.Grade.kind G.Grade.value) (worth G.Grade.kind G.Grade.value) }
         ensures named { RowCandidate (L.Lines.x self.now.lines.now) (λ c. list_at self.now.done.begins.now self.now.done.cells.now c) self.now.row t result.1 }
     {
-        row_step(self.row, self.done, self.lines, t)
+        let mut near = Near { left: 0, right: 0 };
+        self.step_near(t, &mut near)
+    }
+
+    fn step_near(&self, t: u32, near: &mut Near) -> (Range<G>, Option<u32>) {
+        row_step(self.row, self.done, self.lines, t, near)
     }
 }
 

@@ -11,6 +11,7 @@ use crate::look::{look, look_near};
 use grades::grade::Grade;
 use grades::range::Range;
 use pieces::list::PieceList;
+use pieces::signal::Near;
 use pieces::ticks::{first_of, moved_back};
 
 // Which of two ranges is kept. It has a name of its own, since the clauses of a window say which of the two is meant.
@@ -30,27 +31,35 @@ fn combine<G: Grade>(way: Way, one: Range<G>, other: Range<G>) -> Range<G>
     }
 }
 
-// The child's opposite, as long as the child stays.
-pub(crate) fn not_step<G: Grade>(child: &PieceList<'_, Range<G>>, t: u32) -> (Range<G>, Option<u32>)
+// The child's opposite, as long as the child stays. It looks first near the place where the last step looked, and leaves there where this one did.
+pub(crate) fn not_step<G: Grade>(
+    child: &PieceList<'_, Range<G>>,
+    t: u32,
+    near: &mut usize,
+) -> (Range<G>, Option<u32>)
     ensures steady { Steady (λ u. (spans G.kind).opposite (heard G.kind G.value child.now.pieces.now u)) t (worth G.kind G.value result.0) result.1 }
     ensures named { NeverOr (Starts child.now.pieces.now) result.1 }
 {
-    let (range, next) = look(child, t as u64);
+    let (range, next, place) = look_near(child, t as u64, *near);
+    *near = place;
     (range.opposite(), next)
 }
 
-// The two children made one, as long as both stay.
+// The two children made one, as long as both stay. It looks first near the places where the last step looked, and leaves there where this one did.
 pub(crate) fn pair_step<G: Grade>(
     way: Way,
     left: &PieceList<'_, Range<G>>,
     right: &PieceList<'_, Range<G>>,
     t: u32,
+    near: &mut Near,
 ) -> (Range<G>, Option<u32>)
     ensures steady { Steady (λ u. op G.kind way (heard G.kind G.value left.now.pieces.now u) (heard G.kind G.value right.now.pieces.now u)) t (worth G.kind G.value result.0) result.1 }
     ensures named { NeverOr (EitherStarts left.now.pieces.now right.now.pieces.now) result.1 }
 {
-    let (one, m) = look(left, t as u64);
-    let (other, n) = look(right, t as u64);
+    let (one, m, place_left) = look_near(left, t as u64, near.left);
+    let (other, n, place_right) = look_near(right, t as u64, near.right);
+    near.left = place_left;
+    near.right = place_right;
     (combine(way, one, other), first_of(m, n))
 }
 

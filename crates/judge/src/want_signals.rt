@@ -33,6 +33,8 @@ impl Signal<bool> for LastRow {
 
     ghost f = { λ s. only_at s.tick };
 
+    ghost may_answer = { λ s t v next. Changed (only_at s.tick) v next };
+
     fn step(&self, t: u32) -> (bool, Option<u32>)
         ensures steady { Steady (only_at self.now.tick) t result.0 result.1 }
         ensures agree { Agree (λ (b : Bool). b) (λ (b : Bool). b) }
@@ -66,6 +68,8 @@ impl<'a, 'b, 'c, G: Grade> Signal<bool> for ChildRow<'a, 'b, 'c, G> {
     ghost value = { λ b. b };
 
     ghost f = { λ s. passed_on G.Grade.kind G.Grade.value s.ranges.begins.now s.ranges.cells.now s.row s.number s.child s.limit (said s.want.pieces.now) };
+
+    ghost may_answer = { λ s t v next. ChildCandidate (λ c. list_at s.ranges.begins.now s.ranges.cells.now c) s.row s.child s.limit (EitherStarts s.want.pieces.now (list_at s.ranges.begins.now s.ranges.cells.now s.number)) next };
 
     fn step(&self, t: u32) -> (bool, Option<u32>)
         ensures steady { Steady (passed_on G.Grade.kind G.Grade.value self.now.ranges.begins.now self.now.ranges.cells.now self.now.row self.now.number self.now.child self.now.limit (said self.now.want.pieces.now)) t result.0 result.1 }

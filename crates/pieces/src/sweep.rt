@@ -3,7 +3,7 @@ ghost use Rattle.pieces.specs.Cells.{Written};
 
 use crate::piece::Piece;
 use crate::same::Same;
-use crate::signal::Signal;
+use crate::signal::{Near, Signal};
 
 /// The cells do not suffice.
 #[derive(Clone, Copy)]
@@ -22,7 +22,9 @@ pub fn sweep<V: Same, S: Signal<V>>(
     if used >= cells.len() {
         return Err(Full);
     }
-    let (first, after) = source.step(0);
+    // Tick 0 lies in the first piece of every list.
+    let mut near = Near { left: 0, right: 0 };
+    let (first, after) = source.step_near(0, &mut near);
     cells[used] = Piece {
         start: 0,
         value: first,
@@ -31,7 +33,7 @@ pub fn sweep<V: Same, S: Signal<V>>(
     let mut last = first;
     let mut next = after;
     while let Some(t) = next {
-        let (value, after) = source.step(t);
+        let (value, after) = source.step_near(t, &mut near);
         if !value.same(last) {
             if end >= cells.len() {
                 return Err(Full);

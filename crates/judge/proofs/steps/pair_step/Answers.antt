@@ -12,12 +12,12 @@ returns g c =
     let l = heard K g.G.Grade.value c.args.left.now.pieces.now in
     let r = heard K g.G.Grade.value c.args.right.now.pieces.now in
     let f = op K c.args.way in
-    let x = W c.look-one.result.0 in
-    let y = W c.look-other.result.0 in
-    let m = c.look-one.result.1 in
-    let n = c.look-other.result.1 in
+    let x = W c.look_near-one.result.0 in
+    let y = W c.look_near-other.result.0 in
+    let m = c.look_near-one.result.1 in
+    let n = c.look_near-other.result.1 in
     record {
       steady = steady_as (λ u. f (l u) (r u)) c.args.t (f x y) (W c.combine.result) (sooner m n) c.first_of.result c.combine.ensures c.first_of.ensures
-          (both_steady l r c.args.t x y m n f c.look-one.ensures.steady c.look-other.ensures.steady);
-      named = either_starts c.args.left.now.pieces.now c.args.right.now.pieces.now m n c.first_of.result c.first_of.ensures c.look-one.ensures.named c.look-other.ensures.named;
+          (both_steady l r c.args.t x y m n f c.look_near-one.ensures.steady c.look_near-other.ensures.steady);
+      named = either_starts c.args.left.now.pieces.now c.args.right.now.pieces.now m n c.first_of.result c.first_of.ensures c.look_near-one.ensures.named c.look_near-other.ensures.named;
     }
